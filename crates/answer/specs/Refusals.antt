@@ -1,0 +1,20 @@
+-- Refusals as document 01 gives them: a list of tests in order, the first that holds decides, and where none holds the effect happens.
+use Prim.Native.Nat.{ℕ}
+use mathlib.Core.Bool.{Bool, cond}
+use mathlib.Core.List.{List, [], _∷_}
+use Rattle.answer.specs.declared.Answer.{Answer}
+
+infix 20 _⇒_
+-- a test with the refusal that it gives
+pub data Test : Type 0 where
+  _⇒_ : Bool → Answer → Test
+
+-- the refusal of the first test that holds, and the outcome where none does
+unfoldable pub unless : {A : Type 0} → (Answer → A) → List Test → A → A
+unless refuse [] outcome = outcome
+unless refuse ((holds ⇒ answer) ∷ tests) outcome = cond holds (refuse answer) (unless refuse tests outcome)
+
+-- what a function over a lent buffer leaves: its answer, and the words of the buffer
+pub record Outcome : Type 0 where
+  pub answer : Answer
+  pub buffer : List ℕ

@@ -1,0 +1,2 @@
+-- Proofs of what specs/ claims.
+pub mod PointsHold

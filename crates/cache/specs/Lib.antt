@@ -1,0 +1,2 @@
+-- What the cache holds and what each change does to every cell.
+pub mod Cache

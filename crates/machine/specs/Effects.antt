@@ -1,0 +1,143 @@
+-- "Steps": what each kind does once no refusal holds, and the number that it answers.
+use Prim.Native.Nat.{ℕ, _+_, _-_}
+use mathlib.Core.List.{List}
+use Rattle.answer.specs.declared.Answer.the-variants.{Accepted}
+use Rattle.cache.specs.Cache.{cachedAt, storeOf, flushOf, fenceOf, evictOf}
+use Rattle.log.specs.Entries.{syncCount, liveEvent, appendOf, flushLogOf, endReleaseOf, fenceLogOf, evictSlotOf, pruneOf}
+use Rattle.log.specs.Regions.{oldestRegion}
+use Rattle.log.specs.declared.entries.Event.{Event}
+use Rattle.log.specs.declared.entries.Event.the-variants.{Empty, Store, Acquire, Release}
+use Rattle.machine.specs.Clocks.{joinOf, raisedOf, stampNow, loadedOf, loggedCellOf}
+use Rattle.machine.specs.Holds.{logOf, lockOf, clockOf, lockClockOf, withCache, withLog, withAccesses, withLock, withClock, withLockClock}
+use Rattle.machine.specs.Kinds.{Kind, LOAD, LOG, STORE, ACQUIRE, LOGREL, RELEASE, FLUSH, FLUSHLOG, FENCE, PRUNE, EVICT, EVICTLOG}
+use Rattle.machine.specs.declared.Holder.the-variants.{Nobody, Thread}
+use Rattle.machine.specs.declared.Machine.{Machine}
+use Rattle.machine.specs.declared.Stepped.{Stepped}
+
+-- "Answer 0 is acceptance, with the number named here, else 0."
+abbrev pub accepted : ℕ → Machine → Stepped
+accepted given machine = record { answer = Accepted given; machine = machine }
+
+-- "LOAD cell: answers its seen content."
+unfoldable pub loadEffect : Machine → ℕ → ℕ → Stepped
+loadEffect machine thread cell =
+    accepted
+    (cachedAt (machine .cache) cell)
+    (withAccesses machine (loadedOf (machine .accesses) thread cell (stampNow machine thread)))
+
+-- "LOG cell: appends STORE with the seen content. Answers the rank."
+unfoldable pub logEffect : Machine → ℕ → ℕ → Stepped
+logEffect machine thread cell =
+    accepted
+    (logOf machine thread .tail .next .0)
+    (withAccesses
+    (withLog machine thread (appendOf (logOf machine thread) (Store cell (cachedAt (machine .cache) cell))))
+    (loggedCellOf (machine .accesses) thread cell (stampNow machine thread)))
+
+-- "STORE cell, value: sets the seen content. The cell stops being firm. All threads' marks on its line go."
+unfoldable pub storeEffect : Machine → ℕ → ℕ → Stepped
+storeEffect machine cell value = accepted 0 (withCache machine (storeOf (machine .cache) cell value))
+
+-- "ACQUIRE lock: takes it and appends ACQUIRE with the count. Answers the count." The clocks are joined.
+unfoldable pub acquireEffect : Machine → ℕ → ℕ → Stepped
+acquireEffect machine thread lock =
+    accepted
+    (lockOf machine lock .count .0)
+    (withClock
+    (withLock
+    (withLog machine thread (appendOf (logOf machine thread) (Acquire lock (lockOf machine lock .count))))
+    lock
+    (record { holder = Thread thread; count = lockOf machine lock .count; pruned = lockOf machine lock .pruned }))
+    thread
+    (joinOf (clockOf machine thread) (lockClockOf machine lock)))
+
+-- "LOGREL lock: appends RELEASE with the count; the thread is closing. Answers the count."
+unfoldable pub logReleaseEffect : Machine → ℕ → ℕ → Stepped
+logReleaseEffect machine thread lock =
+    accepted
+    (lockOf machine lock .count .0)
+    (withLog machine thread (appendOf (logOf machine thread) (Release lock (lockOf machine lock .count))))
+
+-- "RELEASE lock: frees it, adds 1 to the count, ends closing." The lock gets the thread's clock.
+unfoldable pub releaseEffect : Machine → ℕ → ℕ → Stepped
+releaseEffect machine thread lock =
+    accepted
+    0
+    (withClock
+    (withLockClock
+    (withLock
+    (withLog machine thread (endReleaseOf (logOf machine thread)))
+    lock
+    (record {
+      holder = Nobody;
+      count = syncCount (lockOf machine lock .count .0 + 1);
+      pruned = lockOf machine lock .pruned;
+    }))
+    lock
+    (clockOf machine thread))
+    thread
+    (raisedOf (clockOf machine thread) thread))
+
+-- "FLUSH line: puts this thread's mark on the line."
+unfoldable pub flushEffect : Machine → ℕ → ℕ → Stepped
+flushEffect machine thread line = accepted 0 (withCache machine (flushOf (machine .cache) thread line))
+
+-- "FLUSHLOG: marks all of the thread's entries made so far."
+unfoldable pub flushLogEffect : Machine → ℕ → Stepped
+flushLogEffect machine thread = accepted 0 (withLog machine thread (flushLogOf (logOf machine thread)))
+
+-- "FENCE: each data line with this thread's mark has its seen content kept, its 8 cells are firm, this mark goes. This thread's marked
+-- entries are kept and firm."
+unfoldable pub fenceEffect : Machine → ℕ → Stepped
+fenceEffect machine thread =
+    accepted
+    0
+    (withLog (withCache machine (fenceOf (machine .cache) thread)) thread (fenceLogOf (logOf machine thread)))
+
+-- where the pruned region's last entry is a RELEASE, one more region that ends in a RELEASE of that lock is pruned
+abbrev pub countPruned : Machine → Event → Machine
+countPruned machine Empty = machine
+countPruned machine (Store cell old) = machine
+countPruned machine (Acquire lock count) = machine
+countPruned machine (Release lock count) =
+    withLock
+    machine
+    lock
+    (record {
+      holder = lockOf machine lock .holder;
+      count = lockOf machine lock .count;
+      pruned = syncCount (lockOf machine lock .pruned .0 + 1);
+    })
+
+-- "PRUNE: commits the thread's oldest finished region not yet pruned, by moving the head past it. Answers how many entries that freed."
+unfoldable pub pruneEffect : Machine → ℕ → Stepped
+pruneEffect machine thread =
+    let log = logOf machine thread in
+    accepted
+    (oldestRegion log)
+    (countPruned
+    (withLog machine thread (pruneOf log (oldestRegion log)))
+    (liveEvent log (oldestRegion log - 1)))
+
+-- "EVICT line: seen content becomes kept. Nothing becomes firm."
+unfoldable pub evictEffect : Machine → ℕ → Stepped
+evictEffect machine line = accepted 0 (withCache machine (evictOf (machine .cache) line))
+
+-- "EVICTLOG thread, slot: seen content becomes kept. Nothing becomes firm."
+unfoldable pub evictLogEffect : Machine → ℕ → ℕ → Stepped
+evictLogEffect machine thread slot =
+    accepted 0 (withLog machine thread (evictSlotOf (logOf machine thread) slot))
+
+unfoldable pub effect : Machine → Kind → ℕ → ℕ → ℕ → Stepped
+effect machine LOAD thread place value = loadEffect machine thread place
+effect machine LOG thread place value = logEffect machine thread place
+effect machine STORE thread place value = storeEffect machine place value
+effect machine ACQUIRE thread place value = acquireEffect machine thread place
+effect machine LOGREL thread place value = logReleaseEffect machine thread place
+effect machine RELEASE thread place value = releaseEffect machine thread place
+effect machine FLUSH thread place value = flushEffect machine thread place
+effect machine FLUSHLOG thread place value = flushLogEffect machine thread
+effect machine FENCE thread place value = fenceEffect machine thread
+effect machine PRUNE thread place value = pruneEffect machine thread
+effect machine EVICT thread place value = evictEffect machine place
+effect machine EVICTLOG thread place value = evictLogEffect machine thread place

@@ -1,0 +1,158 @@
+-- "What the machine holds": its parts by number, the same machine with another part, and the machine of a start call.
+use Prim.Native.Nat.{ℕ, _+_, _*_}
+use mathlib.Core.Bool.{Bool, true, false, cond}
+use mathlib.Core.List.{List, [], _∷_}
+use lib.ListN.{length, getD, set, replicate}
+use lib.Dec.{eqb}
+use Rattle.answer.specs.Lists.{tab}
+use Rattle.answer.specs.declared.Answer.{Answer}
+use Rattle.answer.specs.declared.Answer.the-variants.{Accepted, WrongLength}
+use Rattle.cache.specs.Cache.{cellCount, cacheOf}
+use Rattle.cache.specs.declared.Cache.{Cache}
+use Rattle.log.specs.Ring.{lsn}
+use Rattle.log.specs.Entries.{syncCount, freshLog}
+use Rattle.log.specs.declared.entries.Log.{Log}
+use Rattle.log.specs.declared.ring.Releasing.the-variants.{Nothing}
+use Rattle.machine.specs.declared.Accesses.{Accesses}
+use Rattle.machine.specs.declared.Clock.{Clock}
+use Rattle.machine.specs.declared.Holder.{Holder}
+use Rattle.machine.specs.declared.Holder.the-variants.{Nobody, Thread}
+use Rattle.machine.specs.declared.Lock.{Lock}
+use Rattle.machine.specs.declared.Machine.{Machine}
+use Rattle.machine.specs.declared.Stepped.{Stepped}
+
+-- "4 threads (0 to 3), 8 locks (0 to 7)"
+abbrev pub threadCount : ℕ
+threadCount = 4
+
+abbrev pub lockCount : ℕ
+lockCount = 8
+
+-- what stands at a number past the end of an array: never read by a step whose fields are in range
+abbrev pub noLog : Log
+noLog = record {
+  cached = [];
+  persisted = [];
+  head = lsn 0;
+  tail = record { next = lsn 0; durable = lsn 0; flushed = lsn 0; releasing = Nothing };
+}
+
+abbrev pub noClock : Clock
+noClock = record { t0 = 0; t1 = 0; t2 = 0; t3 = 0 }
+
+abbrev pub noLock : Lock
+noLock = record { holder = Nobody; count = syncCount 0; pruned = syncCount 0 }
+
+-- the machine's parts by number
+abbrev pub logOf : Machine → ℕ → Log
+logOf machine thread = getD (machine .logs) thread noLog
+
+abbrev pub lockOf : Machine → ℕ → Lock
+lockOf machine lock = getD (machine .locks) lock noLock
+
+abbrev pub clockOf : Machine → ℕ → Clock
+clockOf machine thread = getD (machine .clocks) thread noClock
+
+abbrev pub lockClockOf : Machine → ℕ → Clock
+lockClockOf machine lock = getD (machine .«lock_clocks») lock noClock
+
+-- the same machine with another cache, log, access record, lock, or clock
+abbrev pub withCache : Machine → Cache → Machine
+withCache machine cache = record {
+  cache = cache;
+  logs = machine .logs;
+  clocks = machine .clocks;
+  «lock_clocks» = machine .«lock_clocks»;
+  locks = machine .locks;
+  accesses = machine .accesses;
+}
+
+abbrev pub withLog : Machine → ℕ → Log → Machine
+withLog machine thread log = record {
+  cache = machine .cache;
+  logs = set (machine .logs) thread log;
+  clocks = machine .clocks;
+  «lock_clocks» = machine .«lock_clocks»;
+  locks = machine .locks;
+  accesses = machine .accesses;
+}
+
+abbrev pub withAccesses : Machine → Accesses → Machine
+withAccesses machine accesses = record {
+  cache = machine .cache;
+  logs = machine .logs;
+  clocks = machine .clocks;
+  «lock_clocks» = machine .«lock_clocks»;
+  locks = machine .locks;
+  accesses = accesses;
+}
+
+abbrev pub withLock : Machine → ℕ → Lock → Machine
+withLock machine lock value = record {
+  cache = machine .cache;
+  logs = machine .logs;
+  clocks = machine .clocks;
+  «lock_clocks» = machine .«lock_clocks»;
+  locks = set (machine .locks) lock value;
+  accesses = machine .accesses;
+}
+
+abbrev pub withClock : Machine → ℕ → Clock → Machine
+withClock machine thread clock = record {
+  cache = machine .cache;
+  logs = machine .logs;
+  clocks = set (machine .clocks) thread clock;
+  «lock_clocks» = machine .«lock_clocks»;
+  locks = machine .locks;
+  accesses = machine .accesses;
+}
+
+abbrev pub withLockClock : Machine → ℕ → Clock → Machine
+withLockClock machine lock clock = record {
+  cache = machine .cache;
+  logs = machine .logs;
+  clocks = machine .clocks;
+  «lock_clocks» = set (machine .«lock_clocks») lock clock;
+  locks = machine .locks;
+  accesses = machine .accesses;
+}
+
+-- the lock is held by anyone, in document 01's words
+abbrev pub isHeld : Holder → Bool
+isHeld Nobody = false
+isHeld (Thread holder) = true
+
+-- the lock is held by this thread
+abbrev pub isHeldBy : Holder → ℕ → Bool
+isHeldBy Nobody thread = false
+isHeldBy (Thread holder) thread = eqb holder thread
+
+-- no step was taken: a thread's own number is 1
+abbrev pub startClocks : List Clock
+startClocks =
+    record { t0 = 1; t1 = 0; t2 = 0; t3 = 0 } ∷
+    record { t0 = 0; t1 = 1; t2 = 0; t3 = 0 } ∷
+    record { t0 = 0; t1 = 0; t2 = 1; t3 = 0 } ∷
+    record { t0 = 0; t1 = 0; t2 = 0; t3 = 1 } ∷ []
+
+-- the machine at the start, with these cells: nothing logged, nothing held, nothing accessed
+unfoldable pub freshMachine : List ℕ → Machine
+freshMachine cells = record {
+  cache = cacheOf cells;
+  logs = replicate threadCount freshLog;
+  clocks = startClocks;
+  «lock_clocks» = replicate lockCount noClock;
+  locks = replicate lockCount noLock;
+  accesses = record {
+    stamps = replicate (cellCount * threadCount) 0;
+    logged = replicate cellCount 0;
+    loggers = replicate cellCount 0;
+  };
+}
+
+-- the start call: "21: start not 128 words (the machine given back has all cells 0)"
+unfoldable pub startOf : List ℕ → Stepped
+startOf words =
+    cond (eqb (length words) cellCount)
+    (record { answer = Accepted 0; machine = freshMachine words })
+    (record { answer = WrongLength; machine = freshMachine (replicate cellCount 0) })
