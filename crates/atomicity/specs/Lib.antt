@@ -3,5 +3,6 @@ pub mod History
 pub mod HappensBefore
 pub mod Races
 pub mod Demand3
+pub mod AnyOrder
 pub mod LogSum
 pub mod Points

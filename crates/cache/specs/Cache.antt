@@ -2,8 +2,8 @@
 -- A cell, line or thread that is out of range changes nothing.
 use Prim.Native.Nat.{ℕ, _+_, _*_, _/_, _%_}
 use mathlib.Core.Bool.{Bool, true, false, cond, _&&_}
-use mathlib.Core.List.{List}
-use lib.ListN.{getD, set, replicate}
+use mathlib.Core.List.{List, _++_}
+use lib.ListN.{length, getD, set, drop, replicate}
 use lib.Dec.{eqb, ltb}
 use Rattle.answer.specs.Lists.{setFrom, mixFrom}
 use Rattle.cache.specs.declared.Cache.{Cache}
@@ -89,3 +89,8 @@ evictOf cache line = record {
   durable = cache .durable;
   pending = cache .pending;
 }
+
+-- the writer of the persisted cells over a lent part of an image: its first 128 words are the cells, and a part that is too short is
+-- as it was
+unfoldable pub persistedInto : Cache → List ℕ → List ℕ
+persistedInto cache part = cond (ltb (length part) cellCount) part (cache .persisted ++ drop cellCount part)

@@ -1,13 +1,176 @@
 // Cells and lines: what each cell holds in the cache and in persistent memory. Knows nothing of logs, locks or regions.
+ghost use mathlib.Core.Path.{_≡_};
+ghost use mathlib.Core.Bool.{true, false};
+ghost use Prim.Native.Nat.{_*_, _%_, _<_};
+ghost use lib.ListN.{length};
+ghost use lib.Dec.{eqb};
+ghost use Rattle.answer.specs.Lists.{setFrom, mixFrom};
+ghost use Rattle.cache.specs.Cache.{cellCount, lineCount, threadCount, lineOf, cacheOf, cachedAt, isDurable, storeOf, flushOf, fenceOf, evictOf, persistedInto};
 
-// 128 cells of 64 bits in 16 lines of 8.
+// The cells, of 64 bits each.
+const CELLS: usize = 128;
+
+// The lines that the cells stand in.
+const LINES: usize = 16;
+
+// The cells of a line.
+const LINE_CELLS: usize = 8;
+
+// The threads, each of which has flushes of its own.
+const THREADS: usize = 4;
+
+// What each cell holds, and which flushes a fence has yet to complete.
 pub struct Cache {
     // Document 01's seen content of each cell, which a cut loses.
-    cached: [u64; 128],
+    cached: [u64; CELLS],
     // Document 01's kept content of each cell.
-    persisted: [u64; 128],
+    persisted: [u64; CELLS],
     // Whether each cell is durable (document 01: firm).
-    durable: [bool; 128],
+    durable: [bool; CELLS],
     // Whether each thread has a pending flush (document 01: a mark) of each line: thread 0's 16 lines, then thread 1's, and so on.
-    pending: [bool; 64],
+    pending: [bool; THREADS * LINES],
+}
+
+// Copies the eight cells of a line.
+fn copy_line(from: &[u64; CELLS], to: &mut [u64; CELLS], line: usize)
+    requires { ⌜ (line < lineCount) × (length (now from) ≡ cellCount) × (length (now to) ≡ cellCount) ⌝ }
+    ensures { λ r. ⌜ now (to .exit) ≡ mixFrom (λ cell. eqb (lineOf cell) line) 0 (now (from .entry)) (now (to .entry)) ⌝ }
+{
+    let end = line * LINE_CELLS + LINE_CELLS;
+    let mut cell = line * LINE_CELLS;
+    while cell < end {
+        to[cell] = from[cell];
+        cell += 1;
+    }
+}
+
+// Sets the eight cells of a line.
+fn set_line(flags: &mut [bool; CELLS], line: usize)
+    requires { ⌜ (line < lineCount) × (length (now flags) ≡ cellCount) ⌝ }
+    ensures { λ r. ⌜ now (flags .exit) ≡ setFrom (λ cell. eqb (lineOf cell) line) true 0 (now (flags .entry)) ⌝ }
+{
+    let end = line * LINE_CELLS + LINE_CELLS;
+    let mut cell = line * LINE_CELLS;
+    while cell < end {
+        flags[cell] = true;
+        cell += 1;
+    }
+}
+
+// Drops every thread's pending flush of a line.
+fn clear_flushes(pending: &mut [bool; THREADS * LINES], line: usize)
+    requires { ⌜ (line < lineCount) × (length (now pending) ≡ threadCount * lineCount) ⌝ }
+    ensures { λ r. ⌜ now (pending .exit) ≡ setFrom (λ place. eqb (place % lineCount) line) false 0 (now (pending .entry)) ⌝ }
+{
+    let mut thread = 0;
+    while thread < THREADS {
+        pending[thread * LINES + line] = false;
+        thread += 1;
+    }
+}
+
+impl Cache {
+    // The cache at the start: each cell is durable with its start content, and no flush is pending.
+    pub fn new(words: [u64; CELLS]) -> Cache
+        ensures { λ r. ⌜ r ≡ cacheOf words ⌝ }
+    {
+        Cache {
+            cached: words,
+            persisted: words,
+            durable: [true; CELLS],
+            pending: [false; THREADS * LINES],
+        }
+    }
+
+    // The cached content of a cell, and 0 past the last cell.
+    pub fn load(self, cell: usize) -> u64
+        ensures { λ r. ⌜ r ≡ cachedAt self cell ⌝ }
+    {
+        if cell < CELLS { self.cached[cell] } else { 0 }
+    }
+
+    // Whether a cell is durable; past the last cell none is.
+    pub fn is_durable(self, cell: usize) -> bool
+        ensures { λ r. ⌜ r ≡ isDurable self cell ⌝ }
+    {
+        if CELLS <= cell {
+            return false;
+        }
+        self.durable[cell]
+    }
+
+    // The cell's cached content is the value, the cell is not durable, and no flush of its line is pending.
+    pub fn store(mut self, cell: usize, value: u64) -> Cache
+        ensures { λ r. ⌜ r ≡ storeOf self cell value ⌝ }
+    {
+        if cell < CELLS {
+            self.cached[cell] = value;
+            self.durable[cell] = false;
+            clear_flushes(&mut self.pending, cell / LINE_CELLS);
+        }
+        self
+    }
+
+    // The thread has a flush of the line pending.
+    pub fn flush(mut self, thread: usize, line: usize) -> Cache
+        ensures { λ r. ⌜ r ≡ flushOf self thread line ⌝ }
+    {
+        if thread < THREADS {
+            if line < LINES {
+                self.pending[thread * LINES + line] = true;
+            }
+        }
+        self
+    }
+
+    // Completes the thread's pending flushes: the cells of each such line are persisted and durable.
+    pub fn fence(mut self, thread: usize) -> Cache
+        ensures { λ r. ⌜ r ≡ fenceOf self thread ⌝ }
+    {
+        if thread < THREADS {
+            let cached = self.cached;
+            let mut persisted = self.persisted;
+            let mut durable = self.durable;
+            let mut pending = self.pending;
+            let mut line = 0;
+            while line < LINES {
+                let place = thread * LINES + line;
+                if pending[place] {
+                    copy_line(&cached, &mut persisted, line);
+                    set_line(&mut durable, line);
+                    pending[place] = false;
+                }
+                line += 1;
+            }
+            self.persisted = persisted;
+            self.durable = durable;
+            self.pending = pending;
+        }
+        self
+    }
+
+    // The line's cached content is persisted. No cell becomes durable by it.
+    pub fn evict(mut self, line: usize) -> Cache
+        ensures { λ r. ⌜ r ≡ evictOf self line ⌝ }
+    {
+        if line < LINES {
+            let cells = self.cached;
+            copy_line(&cells, &mut self.persisted, line);
+        }
+        self
+    }
+
+    // Writes the persisted cells to the first 128 words of a part of an image; a part that is too short is left as it was.
+    pub fn persist_into(self, image: &mut [u64])
+        ensures { λ r. ⌜ now (image .exit) ≡ persistedInto self (now (image .entry)) ⌝ }
+    {
+        if CELLS <= image.len() {
+            let persisted = self.persisted;
+            let mut cell = 0;
+            while cell < CELLS {
+                image[cell] = persisted[cell];
+                cell += 1;
+            }
+        }
+    }
 }

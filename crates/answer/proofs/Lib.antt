@@ -1,0 +1,4 @@
+-- Laws about the definitions that every crate shares.
+pub mod RefusalLaws
+pub mod BelowLaws
+pub mod ListLaws

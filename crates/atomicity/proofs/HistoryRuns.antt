@@ -1,0 +1,130 @@
+-- Runs with their history: what a start call has, and each refused step and each effect keeps, holds of every machine and history that steps lead to.
+use Prim.Native.Nat.{ℕ, _<_}
+use mathlib.Core.Path.{_≡_, refl, _∙_, ap}
+use mathlib.Core.Bool.{Bool, true, false, cond}
+use mathlib.Core.List.{List, [], _∷_, _++_, append-assoc, append-nil}
+use mathlib.Core.Option.{Option, some}
+use native.Mathlib.Omega.{arith}
+use lib.ListN.{length, replicate}
+use lib.Dec.{eqb}
+use borrow.Author.Tests.{ltb-true, eqb-true, not-false}
+use Rattle.answer.specs.Answer.{isAccepted}
+use Rattle.answer.specs.declared.Answer.the-variants.{Accepted, WrongLength}
+use Rattle.answer.proofs.RefusalLaws.{AllFail}
+use Rattle.cache.specs.Cache.{cellCount}
+use Rattle.machine.specs.Effects.{loadEffect, logEffect, storeEffect, acquireEffect, logReleaseEffect, releaseEffect, flushEffect, flushLogEffect, fenceEffect, pruneEffect, evictEffect, evictLogEffect, effect}
+use Rattle.machine.specs.Holds.{threadCount, freshMachine, startOf}
+use Rattle.machine.specs.Kinds.{Kind, LOAD, LOG, STORE, ACQUIRE, LOGREL, RELEASE, FLUSH, FLUSHLOG, FENCE, PRUNE, EVICT, EVICTLOG, kindOf, fieldsOf, isOver, inputTests}
+use Rattle.machine.specs.Refusals.{stateTests}
+use Rattle.machine.specs.Runs.{Step, stepWith, after}
+use Rattle.machine.specs.declared.Machine.{Machine}
+use Rattle.machine.specs.declared.Stepped.{Stepped}
+use Rattle.machine.proofs.StepLaws.{testsOf, step-cases}
+use Rattle.atomicity.specs.History.{Fed, fedWith, historyOf, startMachine, machineAfter, historyAfter}
+use Rattle.atomicity.proofs.Ordered.{andThen}
+
+-- document 01's number of a kind
+abbrev pub kindNumber : Kind → ℕ
+kindNumber LOAD = 1
+kindNumber LOG = 2
+kindNumber STORE = 3
+kindNumber ACQUIRE = 4
+kindNumber LOGREL = 5
+kindNumber RELEASE = 6
+kindNumber FLUSH = 7
+kindNumber FLUSHLOG = 8
+kindNumber FENCE = 9
+kindNumber PRUNE = 10
+kindNumber EVICT = 11
+kindNumber EVICTLOG = 12
+
+-- a number that has a kind is that kind's
+pub kind-number : (number : ℕ) (kind : Kind) → kindOf number ≡ some kind → number ≡ kindNumber kind
+unfolding kindOf
+kind-number number kind isKind =
+    pick LOAD (pick LOG (pick STORE (pick ACQUIRE (pick LOGREL (pick RELEASE (pick FLUSH (pick FLUSHLOG (pick FENCE (pick PRUNE (pick EVICT (pick EVICTLOG (λ isNone. let never : _≡_ {A = ℕ} 0 1 = cc in absurd (omega arith))))))))))))) isKind
+  where
+    pick : (found : Kind) {rest : Option Kind} → (rest ≡ some kind → number ≡ kindNumber kind) → cond (eqb number (kindNumber found)) (some found) rest ≡ some kind → number ≡ kindNumber kind
+    pick found {rest} other isKind = by-test (eqb number (kindNumber found)) refl isKind
+      where
+        by-test : (test : Bool) → eqb number (kindNumber found) ≡ test → cond test (some found) rest ≡ some kind → number ≡ kindNumber kind
+        by-test true isFound isKind = let sameKind : found ≡ kind = cc in eqb-true number (kindNumber found) isFound ∙ ap kindNumber sameKind
+        by-test false isElse isKind = other isKind
+
+-- the step of a kind, accepted
+abbrev pub tookStep : Kind → ℕ → ℕ → ℕ → Fed
+tookStep kind thread place value = record { kind = kindNumber kind; thread = thread; place = place; value = value; accepted = true }
+
+-- what the tests that all failed tell
+module _ (machine : Machine) (kind : Kind) (thread place value : ℕ) (fails : AllFail (testsOf machine kind thread place value)) where
+  pub thread-in-range : thread < threadCount
+  unfolding inputTests
+  thread-in-range = ltb-true _ _ (not-false _ (fails .0))
+
+  pub place-in-range : isOver (fieldsOf kind .place) place ≡ false
+  unfolding inputTests
+  place-in-range = fails .1 .0
+
+  pub state-fails : AllFail (stateTests machine kind thread place)
+  unfolding inputTests
+  state-fails = fails .1 .1 .1
+
+-- an effect's answer is acceptance
+pub effect-accepted : (machine : Machine) (kind : Kind) (thread place value : ℕ) → isAccepted (effect machine kind thread place value .answer) ≡ true
+unfolding effect loadEffect logEffect storeEffect acquireEffect logReleaseEffect releaseEffect flushEffect flushLogEffect fenceEffect pruneEffect evictEffect evictLogEffect
+effect-accepted machine LOAD thread place value = refl
+effect-accepted machine LOG thread place value = refl
+effect-accepted machine STORE thread place value = refl
+effect-accepted machine ACQUIRE thread place value = refl
+effect-accepted machine LOGREL thread place value = refl
+effect-accepted machine RELEASE thread place value = refl
+effect-accepted machine FLUSH thread place value = refl
+effect-accepted machine FLUSHLOG thread place value = refl
+effect-accepted machine FENCE thread place value = refl
+effect-accepted machine PRUNE thread place value = refl
+effect-accepted machine EVICT thread place value = refl
+effect-accepted machine EVICTLOG thread place value = refl
+
+-- what is kept by each refused step and by each effect whose tests all failed
+module _ (P : Machine → List Fed → Type 0) (onRefusal : (machine : Machine) (history : List Fed) → P machine history → (next : Fed) → next .accepted ≡ false → P machine (andThen history next)) (onEffect : (machine : Machine) (history : List Fed) → P machine history → (kind : Kind) (thread place value : ℕ) → AllFail (testsOf machine kind thread place value) → P (effect machine kind thread place value .machine) (andThen history (tookStep kind thread place value))) where
+  -- every step keeps it
+  pub step-keeps-history : (machine : Machine) (history : List Fed) → P machine history → (step : Step) → P (stepWith machine step .machine) (andThen history (fedWith step (isAccepted (stepWith machine step .answer))))
+  step-keeps-history machine history holds step =
+      step-cases
+      machine
+      (λ stepped. P (stepped .machine) (andThen history (fedWith step (isAccepted (stepped .answer)))))
+      (λ answer isRefusal. onRefusal machine history holds (fedWith step (isAccepted answer)) isRefusal)
+      (step .kind)
+      (step .thread)
+      (step .place)
+      (step .value)
+      (λ kind isKind fails.
+      rw
+      (effect-accepted machine kind (step .thread) (step .place) (step .value), kind-number (step .kind) kind isKind)
+      (onEffect machine history holds kind (step .thread) (step .place) (step .value) fails))
+
+  -- and so does every list of steps
+  pub run-keeps : (machine : Machine) (history : List Fed) → P machine history → (steps : List Step) → P (after machine steps) (history ++ historyOf machine steps)
+  unfolding after historyOf
+  run-keeps machine history holds [] = rw append-nil holds
+  run-keeps machine history holds (step ∷ steps) =
+      rw append-assoc at
+      (run-keeps
+      (stepWith machine step .machine)
+      (andThen history (fedWith step (isAccepted (stepWith machine step .answer))))
+      (step-keeps-history machine history holds step)
+      steps)
+
+-- what holds at the start too
+module _ (P : Machine → List Fed → Type 0) (onStart : (cells : List ℕ) → P (freshMachine cells) []) (onRefusal : (machine : Machine) (history : List Fed) → P machine history → (next : Fed) → next .accepted ≡ false → P machine (andThen history next)) (onEffect : (machine : Machine) (history : List Fed) → P machine history → (kind : Kind) (thread place value : ℕ) → AllFail (testsOf machine kind thread place value) → P (effect machine kind thread place value .machine) (andThen history (tookStep kind thread place value))) where
+  on-start : (words : List ℕ) → P (startMachine words) []
+  unfolding startOf
+  on-start words = by-length (eqb (length words) cellCount)
+    where
+      by-length : (isLength : Bool) → P (cond {A = Stepped} isLength (record { answer = Accepted 0; machine = freshMachine words }) (record { answer = WrongLength; machine = freshMachine (replicate cellCount 0) }) .machine) []
+      by-length true = onStart words
+      by-length false = onStart (replicate cellCount 0)
+
+  -- from the start call, however long the list
+  pub start-keeps : (words : List ℕ) (steps : List Step) → P (machineAfter words steps) (historyAfter words steps)
+  start-keeps words steps = run-keeps P onRefusal onEffect (startMachine words) [] (on-start words) steps

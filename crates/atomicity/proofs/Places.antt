@@ -1,0 +1,183 @@
+-- The places of a history and the entries that its steps made: a step stands at its thread's last entry after it, and what happens before
+-- another step stands at an entry that leads to that step's.
+use Prim.Native.Nat.{ℕ, zero, suc, _+_, _≤_, _<_}
+use native.Mathlib.Decide.{decLt, ℕ-discrete}
+use native.Mathlib.Omega.{arith}
+use mathlib.Core.Path.{_≡_, refl, sym, ap, _∙_, subst}
+use mathlib.Core.Bool.{Bool, true, false, cond, _&&_, _||_}
+use mathlib.Core.List.{List, [], _∷_, _++_}
+use mathlib.Core.Logic.{_⊎_, inl, inr, ⊎-elim, by-cases}
+use lib.ListN.{length, getD, length-append, List·getD-append, List·getD-eq-default}
+use lib.Seq.{getD-append-seam}
+use lib.Dec.{eqb}
+use Rattle.log.specs.declared.entries.Event.{Event}
+use Rattle.log.specs.declared.entries.Event.the-variants.{Store}
+use Rattle.atomicity.specs.History.{Fed, noStep, stepAt}
+use Rattle.atomicity.specs.HappensBefore.{Accepted, HappensBefore, inThread, byLock, through}
+use Rattle.atomicity.proofs.Logged.{Entries, Made, Is, IsReleaseOf, IsAcquireOf, Grows, still-is}
+use Rattle.atomicity.proofs.Leads as Order
+use Rattle.atomicity.proofs.Leads.{Leads, leads-grow}
+
+-- the step at a place is an accepted one of the thread that makes an entry: 2 LOG, 4 ACQUIRE and 5 LOGREL do
+abbrev pub makes : Fed → ℕ → Bool
+makes fed thread = fed .accepted && (eqb (fed .thread) thread && (eqb (fed .kind) 2 || (eqb (fed .kind) 4 || eqb (fed .kind) 5)))
+
+-- how many entries the thread made by the steps at the first so many places
+unfoldable pub madeBy : List Fed → ℕ → ℕ → ℕ
+madeBy history thread zero = 0
+madeBy history thread (suc count) = cond (makes (stepAt history count) thread) 1 0 + madeBy history thread count
+
+-- the last LSN of a step's thread after it
+abbrev pub lastOf : List Fed → ℕ → ℕ
+lastOf history place = madeBy history (stepAt history place .thread) (suc place)
+
+-- a thread's last LSN only grows
+pub made-grows : (history : List Fed) (thread first second : ℕ) → first ≤ second → madeBy history thread first ≤ madeBy history thread second
+unfolding madeBy
+made-grows history thread first zero before = let none : first ≡ 0 = omega arith in rw none (omega arith)
+made-grows history thread first (suc second) before =
+    by-cases
+    (ℕ-discrete first (suc second))
+    (λ same. rw same (omega arith))
+    (λ differs.
+    let less = made-grows history thread first second (omega (arith, differs)) in
+    omega arith)
+
+module _ (history : List Fed) (fed : Fed) where
+  -- the history with one step more
+  abbrev pub thenFed : List Fed
+  thenFed = history ++ (fed ∷ [])
+
+  pub length-then : length thenFed ≡ suc (length history)
+  length-then = simp length-append (omega arith)
+
+  pub step-before : {place : ℕ} → place < length history → stepAt thenFed place ≡ stepAt history place
+  step-before {place} before = List·getD-append history (fed ∷ []) noStep place before
+
+  pub step-new : stepAt thenFed (length history) ≡ fed
+  step-new = getD-append-seam history fed [] noStep
+
+  pub made-before : (thread count : ℕ) → count ≤ length history → madeBy thenFed thread count ≡ madeBy history thread count
+  unfolding madeBy
+  made-before thread zero within = refl
+  made-before thread (suc count) within =
+      rw (step-before {place = count} (omega arith), made-before thread count (omega arith))
+
+  pub made-new : (thread : ℕ) → madeBy thenFed thread (suc (length history)) ≡ cond (makes fed thread) 1 0 + madeBy history thread (length history)
+  unfolding madeBy
+  made-new thread = rw (step-new, made-before thread (length history) (omega arith))
+
+  pub last-before : {place : ℕ} → place < length history → lastOf thenFed place ≡ lastOf history place
+  last-before {place} before =
+      ap (λ (step : Fed). madeBy thenFed (step .thread) (suc place)) (step-before before) ∙ made-before (stepAt history place .thread) (suc place) before
+
+-- the history's steps and the entries
+pub record PlacesHold (history : List Fed) (entries : Entries) (counts : ℕ → ℕ) : Type 0 where
+  pub threadIs : (place : ℕ) → stepAt history place .accepted ≡ true → stepAt history place .thread < 4
+  pub nextIs : (thread : ℕ) → thread < 4 → entries .next thread ≡ suc (madeBy history thread (length history))
+  -- a RELEASE step stands at its RELEASE entry, of a count that the lock has passed
+  pub releaseAt : {place : ℕ} → Accepted history place 6 → (count : ℕ) × IsReleaseOf entries (stepAt history place .thread) (lastOf history place) (stepAt history place .place) count × (count < counts (stepAt history place .place))
+  -- each RELEASE step leads to each later ACQUIRE step of the lock
+  pub lockLeads : {first second : ℕ} → first < second → Accepted history first 6 → Accepted history second 4 → stepAt history first .place ≡ stepAt history second .place → Leads entries (stepAt history first .thread) (lastOf history first) (stepAt history second .thread) (lastOf history second)
+
+-- what happens before leads
+pub before-leads : {history : List Fed} {entries : Entries} {counts : ℕ → ℕ} {first second : ℕ} → PlacesHold history entries counts → HappensBefore history first second → Leads entries (stepAt history first .thread) (lastOf history first) (stepAt history second .thread) (lastOf history second)
+before-leads {history} {entries} {counts} {first} {second} holds (inThread before isFirst isSecond same) =
+    subst
+    (λ (thread : ℕ). Leads entries (stepAt history first .thread) (lastOf history first) thread (madeBy history thread (suc second)))
+    same
+    (Order.inThread (made-grows history (stepAt history first .thread) (suc first) (suc second) (omega arith)))
+before-leads holds (byLock before isFirst isSecond same) = holds .lockLeads before isFirst isSecond same
+before-leads holds (through first second) = Order.through (before-leads holds first) (before-leads holds second)
+
+-- what a step adds
+pub record NewPlace (history : List Fed) (fed : Fed) (old new : Entries) (counts after : ℕ → ℕ) : Type 0 where
+  pub grows : Grows old new (length history)
+  pub thread : fed .accepted ≡ true → fed .thread < 4
+  pub nextNew : (thread : ℕ) → thread < 4 → new .next thread ≡ cond (makes fed thread) 1 0 + old .next thread
+  pub countGrows : (lock : ℕ) → counts lock ≤ after lock
+  pub newRelease : fed .accepted ≡ true → fed .kind ≡ 6 → (count : ℕ) × IsReleaseOf new (fed .thread) (madeBy (thenFed history fed) (fed .thread) (suc (length history))) (fed .place) count × (count < after (fed .place))
+  pub newAcquire : fed .accepted ≡ true → fed .kind ≡ 4 → IsAcquireOf new (fed .thread) (madeBy (thenFed history fed) (fed .thread) (suc (length history))) (fed .place) (counts (fed .place))
+
+module _ {history : List Fed} {fed : Fed} {old new : Entries} {counts after : ℕ → ℕ} (step : NewPlace history fed old new counts after) (holds : PlacesHold history old counts) where
+  -- an accepted step stands in the history, or is the new one
+  place-cases : (place : ℕ) → stepAt (thenFed history fed) place .accepted ≡ true → (place < length history) ⊎ (place ≡ length history)
+  place-cases place isAccepted =
+      by-cases
+      (decLt place (length history))
+      (λ before. inl before)
+      (λ notBefore.
+      by-cases
+      (ℕ-discrete place (length history))
+      (λ same. inr same)
+      (λ differs.
+      let beyond : length (thenFed history fed) ≤ place = rw (length-then history fed) (omega (arith, notBefore, differs)) in
+      let refusedThere : stepAt (thenFed history fed) place .accepted ≡ false = ap (λ (step : Fed). step .accepted) (List·getD-eq-default (thenFed history fed) noStep beyond) in
+      let never : _≡_ {A = ℕ} 0 1 = cc in
+      absurd (omega arith)))
+
+  -- what an accepted step of a kind was, or the new one is
+  accepted-before : {place kind : ℕ} → place < length history → Accepted (thenFed history fed) place kind → Accepted history place kind
+  accepted-before {place} before isAccepted = record {
+    isAccepted = sym (ap (λ (step : Fed). step .accepted) (step-before history fed before)) ∙ isAccepted .isAccepted;
+    isKind = sym (ap (λ (step : Fed). step .kind) (step-before history fed before)) ∙ isAccepted .isKind;
+  }
+
+  new-accepted : {place kind : ℕ} → place ≡ length history → Accepted (thenFed history fed) place kind → (fed .accepted ≡ true) × (fed .kind ≡ kind)
+  new-accepted {place} {kind} same isAccepted =
+      let here : stepAt (thenFed history fed) place ≡ fed = ap (stepAt (thenFed history fed)) same ∙ step-new history fed in
+      (sym (ap (λ (step : Fed). step .accepted) here) ∙ isAccepted .isAccepted, sym (ap (λ (step : Fed). step .kind) here) ∙ isAccepted .isKind)
+
+  -- a RELEASE step of the history, read in the longer one
+  release-before : {place : ℕ} (before : place < length history) → Accepted (thenFed history fed) place 6 → (count : ℕ) × IsReleaseOf new (stepAt (thenFed history fed) place .thread) (lastOf (thenFed history fed) place) (stepAt (thenFed history fed) place .place) count × (count < counts (stepAt (thenFed history fed) place .place))
+  release-before {place} before isAccepted =
+      let found = holds .releaseAt (accepted-before before isAccepted) in
+      rw (last-before history fed before, step-before history fed before) (found .0, still-is (step .grows) (found .1), found .2)
+
+  pub places-step : PlacesHold (thenFed history fed) new after
+  places-step = record {
+    threadIs = λ place isAccepted.
+        ⊎-elim
+        (λ before. rw (step-before history fed {place = place} before) (holds .threadIs place (sym (ap (λ (step : Fed). step .accepted) (step-before history fed before)) ∙ isAccepted)))
+        (λ same.
+        let here : stepAt (thenFed history fed) place ≡ fed = ap (stepAt (thenFed history fed)) same ∙ step-new history fed in
+        rw here (step .thread (sym (ap (λ (step : Fed). step .accepted) here) ∙ isAccepted)))
+        (place-cases place isAccepted);
+    nextIs = λ thread inRange.
+        rw (length-then history fed, made-new history fed thread)
+        (let was = holds .nextIs thread inRange in
+        let now = step .nextNew thread inRange in
+        omega arith);
+    releaseAt = λ {place} isAccepted.
+        ⊎-elim
+        (λ before.
+        let found = release-before before isAccepted in
+        let grew = step .countGrows (stepAt (thenFed history fed) place .place) in
+        let less = found .2 in
+        (found .0, found .1, omega arith))
+        (λ same.
+        let isNew = new-accepted same isAccepted in
+        rw (same, step-new history fed) (step .newRelease (isNew .0) (isNew .1)))
+        (place-cases place (isAccepted .isAccepted));
+    lockLeads = λ {first} {second} before isRelease isAcquire samePlace.
+        ⊎-elim
+        (λ (secondBefore : second < length history).
+        let firstBefore : first < length history = omega arith in
+        rw (last-before history fed firstBefore, last-before history fed secondBefore, step-before history fed firstBefore, step-before history fed secondBefore)
+        (leads-grow (step .grows)
+        (holds .lockLeads
+        before
+        (accepted-before firstBefore isRelease)
+        (accepted-before secondBefore isAcquire)
+        (rw (step-before history fed firstBefore, step-before history fed secondBefore) at samePlace))))
+        (λ (same : second ≡ length history).
+        let isNew = new-accepted same isAcquire in
+        let firstBefore : first < length history = omega arith in
+        let found = release-before firstBefore isRelease in
+        let here : stepAt (thenFed history fed) second ≡ fed = ap (stepAt (thenFed history fed)) same ∙ step-new history fed in
+        let acquire : IsAcquireOf new (stepAt (thenFed history fed) second .thread) (lastOf (thenFed history fed) second) (stepAt (thenFed history fed) second .place) (counts (stepAt (thenFed history fed) second .place)) =
+        rw (same, step-new history fed) (step .newAcquire (isNew .0) (isNew .1)) in
+        let release : IsReleaseOf new (stepAt (thenFed history fed) first .thread) (lastOf (thenFed history fed) first) (stepAt (thenFed history fed) second .place) (found .0) = subst (λ (lock : ℕ). IsReleaseOf new (stepAt (thenFed history fed) first .thread) (lastOf (thenFed history fed) first) lock (found .0)) samePlace (found .1) in
+        Order.byLock release acquire (rw samePlace at (found .2)))
+        (place-cases second (isAcquire .isAccepted));
+  }

@@ -1,0 +1,109 @@
+-- What the clock tests of a LOAD and a LOG tell on a machine whose clocks and accesses are those of a history.
+use Prim.Native.Nat.{ℕ, zero, suc, _<_, _≤_}
+use mathlib.Core.Path.{_≡_, refl, ap}
+use mathlib.Core.Bool.{Bool, true, false, _||_, false≢true, true≢false}
+use mathlib.Core.List.{List, [], _∷_}
+use mathlib.Core.Logic.{⊎-elim, by-cases, _≢_}
+use native.Mathlib.Decide.{ℕ-discrete}
+use native.Mathlib.Omega.{arith}
+use lib.ListN.{length, getD}
+use borrow.Author.Tests.{leb-true, leb-false, not-true, not-false}
+use Rattle.answer.specs.Lists.{someBelow}
+use Rattle.cache.specs.Cache.{cellCount}
+use Rattle.machine.specs.Clocks.{clockAt, accessPlace, loadRaces, logRaces}
+use Rattle.machine.specs.Holds.{threadCount, clockOf}
+use Rattle.machine.specs.declared.Machine.{Machine}
+use Rattle.atomicity.specs.History.{Fed, stepAt}
+use Rattle.atomicity.specs.HappensBefore.{HappensBefore, through}
+use Rattle.atomicity.specs.Races.{IsAccess}
+use Rattle.atomicity.proofs.Ordered.{andThen, before-stays}
+use Rattle.atomicity.proofs.Epochs.{epochAt}
+use Rattle.atomicity.proofs.Knowledge.{KnowsNext}
+use Rattle.atomicity.proofs.ClockInvariant.{clock-knows-next}
+use Rattle.atomicity.proofs.AccessInvariant.{Logged, LastLog, Took, LogOf}
+use Rattle.atomicity.proofs.Follows.{Follows}
+
+-- the test fails of every number below the bound, or holds of one
+none-below : (bound : ℕ) (test : ℕ → Bool) → someBelow bound test ≡ false → (number : ℕ) → number < bound → test number ≡ false
+unfolding someBelow
+none-below zero test none number below = absurd (omega arith)
+none-below (suc bound) test none number below = by-last (test bound) refl none (λ rest. none-below bound test rest number)
+  where
+    by-last : (last : Bool) → test bound ≡ last → (last || someBelow bound test) ≡ false → (someBelow bound test ≡ false → number < bound → test number ≡ false) → test number ≡ false
+    by-last true holds none earlier = absurd (true≢false none)
+    by-last false fails none earlier = by-cases (ℕ-discrete number bound) (λ same. rw same fails) (λ other. earlier none (omega arith))
+
+one-below : (bound : ℕ) (test : ℕ → Bool) → someBelow bound test ≡ true → (number : ℕ) × (number < bound) × (test number ≡ true)
+unfolding someBelow
+one-below zero test some = absurd (false≢true some)
+one-below (suc bound) test some = by-last (test bound) refl some (one-below bound test)
+  where
+    by-last : (last : Bool) → test bound ≡ last → (last || someBelow bound test) ≡ true → (someBelow bound test ≡ true → (number : ℕ) × (number < bound) × (test number ≡ true)) → (number : ℕ) × (number < suc bound) × (test number ≡ true)
+    by-last true holds some earlier = (bound, omega arith, holds)
+    by-last false fails some earlier = let found = earlier some in (found .0, omega (arith, found .1), found .2)
+
+module _ (machine : Machine) (history : List Fed) (follows : Follows machine history) (next : Fed) (isAccepted : next .accepted ≡ true) (isThread : next .thread < threadCount) (notAcquire : next .kind ≢ 4) where
+  knows : KnowsNext history next (clockAt (clockOf machine (next .thread)))
+  knows = clock-knows-next (machine .clocks) (machine .«lock_clocks») history next (follows .clocked) isAccepted isThread notAcquire
+
+  module _ (cell : ℕ) (isCell : cell < cellCount) where
+    logs : Logged history cell (getD (machine .accesses .logged) cell 0) (getD (machine .accesses .loggers) cell 0)
+    logs = follows .accessed .logs cell isCell
+
+    -- a LOAD's test fails: all LOGs of the cell happen before the step
+    pub load-ordered : loadRaces machine (next .thread) cell ≡ false → (place : ℕ) → Took history (LogOf cell) place → HappensBefore (andThen history next) place (length history)
+    unfolding loadRaces
+    load-ordered fails place took =
+        by-cases
+        (ℕ-discrete (getD (machine .accesses .logged) cell 0) 0)
+        (λ isNone. absurd (logs .none isNone place took))
+        (λ isSome. by-last (logs .last isSome))
+      where
+        counted : getD (machine .accesses .logged) cell 0 ≤ clockAt (clockOf machine (next .thread)) (getD (machine .accesses .loggers) cell 0)
+        counted = leb-true _ _ (not-false _ fails)
+
+        by-last : LastLog history cell (getD (machine .accesses .logged) cell 0) (getD (machine .accesses .loggers) cell 0) → HappensBefore (andThen history next) place (length history)
+        by-last last =
+            let lastBefore = knows .before (last .place) (last .isLog .isAccepted) (omega (arith, counted, last .isEpoch, ap (clockAt (clockOf machine (next .thread))) (last .isLogger))) in
+            ⊎-elim (λ same. rw same lastBefore) (λ before. through (before-stays history (next ∷ []) before) lastBefore) (last .othersBefore place took)
+
+    -- it holds: some LOG of the cell does not
+    pub load-race : loadRaces machine (next .thread) cell ≡ true → (place : ℕ) × Took history (LogOf cell) place × (HappensBefore (andThen history next) place (length history) → ⊥)
+    unfolding loadRaces
+    load-race holds = by-last (logs .last (λ isNone. omega (arith, uncounted)))
+      where
+        uncounted : clockAt (clockOf machine (next .thread)) (getD (machine .accesses .loggers) cell 0) < getD (machine .accesses .logged) cell 0
+        uncounted = leb-false _ _ (not-true _ holds)
+
+        by-last : LastLog history cell (getD (machine .accesses .logged) cell 0) (getD (machine .accesses .loggers) cell 0) → (place : ℕ) × Took history (LogOf cell) place × (HappensBefore (andThen history next) place (length history) → ⊥)
+        by-last last = (
+          last .place,
+          last .isLog,
+          λ before. omega (arith, uncounted, last .isEpoch, ap (clockAt (clockOf machine (next .thread))) (last .isLogger), knows .counts (last .place) (last .isLog .isAccepted) before),
+        )
+
+    -- a LOG's test fails: all accesses of the cell happen before the step
+    pub log-ordered : logRaces machine (next .thread) cell ≡ false → (place : ℕ) → stepAt history place .accepted ≡ true → IsAccess (stepAt history place .kind) → stepAt history place .place ≡ cell → HappensBefore (andThen history next) place (length history)
+    unfolding logRaces
+    log-ordered fails place wasAccepted isAccess isPlace = knows .before place wasAccepted (omega (arith, stamped, counted))
+      where
+        thread : ℕ
+        thread = stepAt history place .thread
+
+        counted : getD (machine .accesses .stamps) (accessPlace cell thread) 0 ≤ clockAt (clockOf machine (next .thread)) thread
+        counted = leb-true _ _ (not-false _ (none-below threadCount _ fails thread (follows .inRange place wasAccepted)))
+
+        stamped : epochAt history place ≤ getD (machine .accesses .stamps) (accessPlace cell thread) 0
+        stamped = follows .accessed .stamps cell thread isCell (follows .inRange place wasAccepted) .atMost place (record { isAccepted = wasAccepted; isSort = (isAccess, isPlace, refl) })
+
+    -- it holds: some access of the cell does not
+    pub log-race : logRaces machine (next .thread) cell ≡ true → (place : ℕ) × Took history (λ step. IsAccess (step .kind) × (step .place ≡ cell)) place × (HappensBefore (andThen history next) place (length history) → ⊥)
+    unfolding logRaces
+    log-race holds =
+        let found = one-below threadCount _ holds in
+        let uncounted : clockAt (clockOf machine (next .thread)) (found .0) < getD (machine .accesses .stamps) (accessPlace cell (found .0)) 0 = leb-false _ _ (not-true _ (found .2)) in
+        let last = follows .accessed .stamps cell (found .0) isCell (found .1) .latest (λ isNone. omega arith) in (
+          last .0,
+          record { isAccepted = last .1 .isAccepted; isSort = (last .1 .isSort .0, last .1 .isSort .1) },
+          λ before. omega (arith, last .2, ap (clockAt (clockOf machine (next .thread))) (last .1 .isSort .2), knows .counts (last .0) (last .1 .isAccepted) before),
+        )

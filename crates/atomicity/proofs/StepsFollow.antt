@@ -1,0 +1,308 @@
+-- Every list of steps from the start leads to a machine whose clocks, accesses and locks are those of the history.
+use Prim.Native.Nat.{ℕ, suc, _<_, _≤_, _+_, _-_}
+use mathlib.Core.Path.{_≡_, refl, sym, _∙_, ap}
+use mathlib.Core.Bool.{true, false, false≢true}
+use mathlib.Core.List.{List, [], _∷_}
+use mathlib.Core.Logic.{inr, ⊎-elim, _≢_}
+use native.Mathlib.Omega.{arith}
+use lib.ListN.{set, replicate}
+use borrow.Author.Tests.{ltb-true, not-false}
+use Rattle.answer.proofs.RefusalLaws.{AllFail}
+use Rattle.cache.specs.Cache.{cellCount, cachedAt}
+use Rattle.log.specs.Ring.{grownTail, flushedTail, fencedTail, releasedTail}
+use Rattle.log.specs.Entries.{syncCount, liveEvent, appendOf, flushLogOf, endReleaseOf, fenceLogOf, evictSlotOf, pruneOf}
+use Rattle.log.specs.Regions.{oldestRegion}
+use Rattle.log.specs.declared.entries.Event.{Event}
+use Rattle.log.specs.declared.entries.Event.the-variants.{Empty, Store, Acquire, Release}
+use Rattle.log.specs.declared.entries.Log.{Log}
+use Rattle.machine.specs.Clocks.{clockAt}
+use Rattle.machine.specs.Effects.{loadEffect, logEffect, storeEffect, acquireEffect, logReleaseEffect, releaseEffect, flushEffect, flushLogEffect, fenceEffect, pruneEffect, countPruned, evictEffect, evictLogEffect, effect}
+use Rattle.machine.specs.Holds.{threadCount, lockCount, logOf, lockOf, clockOf, withLog, noClock, startClocks, freshMachine}
+use Rattle.machine.specs.Kinds.{Kind, LOAD, LOG, STORE, ACQUIRE, LOGREL, RELEASE, FLUSH, FLUSHLOG, FENCE, PRUNE, EVICT, EVICTLOG}
+use Rattle.machine.specs.Refusals.{logTests, acquireTests, logReleaseTests, releaseTests, stateTests}
+use Rattle.machine.specs.Runs.{Step, after}
+use Rattle.machine.specs.declared.Holder.the-variants.{Nobody, Thread}
+use Rattle.machine.specs.declared.Machine.{Machine}
+use Rattle.machine.proofs.StepLaws.{testsOf}
+use Rattle.machine.proofs.Sizes.{Sized, effect-sized, fresh-sized}
+use Rattle.atomicity.specs.History.{Fed, stepAt, machineAfter, historyAfter}
+use Rattle.atomicity.proofs.Epochs.{releases, epochAt}
+use Rattle.atomicity.proofs.Ordered.{andThen, own-reaches, old-or-next, step-stays, step-next}
+use Rattle.atomicity.proofs.ClockInvariant.{clocked-start, clocked-refused, clocked-plain, clocked-acquire, clocked-release}
+use Rattle.atomicity.proofs.AccessInvariant.{Took, AccessOf, accessed-start, accessed-refused, accessed-plain, accessed-load, accessed-log}
+use Rattle.atomicity.proofs.Holding.{releasing-lock, held-by, Held, held-start, held-log, held-lock, held-acquire, held-release}
+use Rattle.atomicity.proofs.HistoryRuns.{kindNumber, tookStep, thread-in-range, place-in-range, state-fails, start-keeps}
+use Rattle.atomicity.proofs.Follows.{Follows}
+use Rattle.atomicity.proofs.RaceTests.{log-ordered}
+
+-- a kind that neither accesses a cell nor joins or raises a clock
+record Plain (kind : ℕ) : Type 0 where
+  notLoad : kind ≢ 1
+  notLog : kind ≢ 2
+  notAcquire : kind ≢ 4
+  notRelease : kind ≢ 6
+
+-- counting a pruned region changes neither clocks nor accesses
+record Unclocked (before after : Machine) : Type 0 where
+  clocks : after .clocks ≡ before .clocks
+  lockClocks : after .«lock_clocks» ≡ before .«lock_clocks»
+  accesses : after .accesses ≡ before .accesses
+
+pruned-same : (machine : Machine) (event : Event) → Unclocked machine (countPruned machine event)
+pruned-same machine Empty = record { clocks = refl; lockClocks = refl; accesses = refl }
+pruned-same machine (Store cell old) = record { clocks = refl; lockClocks = refl; accesses = refl }
+pruned-same machine (Acquire lock count) = record { clocks = refl; lockClocks = refl; accesses = refl }
+pruned-same machine (Release lock count) = record { clocks = refl; lockClocks = refl; accesses = refl }
+
+-- nor who holds what
+pruned-held : (machine : Machine) (event : Event) → Held (machine .logs) (machine .locks) (machine .clocks) (machine .«lock_clocks») → Held (countPruned machine event .logs) (countPruned machine event .locks) (machine .clocks) (machine .«lock_clocks»)
+pruned-held machine Empty held = held
+pruned-held machine (Store cell old) held = held
+pruned-held machine (Acquire lock count) held = held
+pruned-held machine (Release lock count) held = held-lock (machine .logs) (machine .locks) (machine .clocks) (machine .«lock_clocks») held lock _ refl
+
+module _ (machine : Machine) (history : List Fed) (follows : Follows machine history) where
+  -- the threads of accepted steps stay in range
+  range-next : (next : Fed) → next .thread < threadCount → (place : ℕ) → stepAt (andThen history next) place .accepted ≡ true → stepAt (andThen history next) place .thread < threadCount
+  range-next next isThread =
+      old-or-next
+      history
+      next
+      (λ place. stepAt (andThen history next) place .thread < threadCount)
+      (λ place inside wasAccepted. rw (step-stays history (next ∷ []) place inside) (follows .inRange place wasAccepted))
+      (λ isAccepted. rw (step-next history next) isThread)
+
+  -- a plain step keeps it, if it leaves clocks and accesses as they are
+  follows-plain : (next : Fed) (after : Machine) → next .accepted ≡ true → next .thread < threadCount → Plain (next .kind) → Sized after → after .clocks ≡ machine .clocks → after .«lock_clocks» ≡ machine .«lock_clocks» → after .accesses ≡ machine .accesses → Held (after .logs) (after .locks) (machine .clocks) (machine .«lock_clocks») → Follows after (andThen history next)
+  follows-plain next after isAccepted isThread plain sized sameClocks sameLockClocks sameAccesses held = record {
+    sized = sized;
+    inRange = range-next next isThread;
+    clocked = rw (sameClocks, sameLockClocks) (clocked-plain (machine .clocks) (machine .«lock_clocks») history next (follows .clocked) isAccepted isThread (plain .notAcquire) (plain .notRelease));
+    accessed = rw sameAccesses (accessed-plain history next (machine .accesses) (follows .accessed) (λ isAccess. ⊎-elim (plain .notLoad) (plain .notLog) isAccess));
+    held = rw (sameClocks, sameLockClocks) held;
+  }
+
+  module _ (thread : ℕ) (isThread : thread < threadCount) where
+    -- a log with the same lock to release changes nothing of who holds what
+    held-with : (log : Log) → log .tail .releasing ≡ logOf machine thread .tail .releasing → Held (set (machine .logs) thread log) (machine .locks) (machine .clocks) (machine .«lock_clocks»)
+    held-with log same =
+        held-log
+        (machine .logs)
+        (machine .locks)
+        (machine .clocks)
+        (machine .«lock_clocks»)
+        (follows .held)
+        thread
+        log
+        (omega (arith, follows .sized .logs))
+        (λ lock isReleasing. follows .held .releasesHeld thread lock (sym same ∙ isReleasing))
+
+    -- a thread's earlier accesses have at most its own number for their epoch
+    own-at-most : (cell place : ℕ) → Took history (AccessOf cell thread) place → epochAt history place ≤ suc (releases history thread)
+    own-at-most cell place took =
+        let isOwn = took .isSort .2 in
+        omega (arith, follows .clocked .own thread isThread, ap (clockAt (clockOf machine thread)) isOwn, follows .clocked .threads thread isThread .counts place (took .isAccepted) (rw isOwn at (own-reaches history place (took .isAccepted))))
+
+  module _ (thread place value : ℕ) where
+    abbrev Kept : Kind → Type 0
+    Kept kind = AllFail (testsOf machine kind thread place value) → Follows (effect machine kind thread place value .machine) (andThen history (tookStep kind thread place value))
+
+    -- the kinds but LOAD, LOG, ACQUIRE and RELEASE
+    plain-kept : (kind : Kind) → Plain (kindNumber kind) → effect machine kind thread place value .machine .clocks ≡ machine .clocks → effect machine kind thread place value .machine .«lock_clocks» ≡ machine .«lock_clocks» → effect machine kind thread place value .machine .accesses ≡ machine .accesses → (thread < threadCount → AllFail (stateTests machine kind thread place) → Held (effect machine kind thread place value .machine .logs) (effect machine kind thread place value .machine .locks) (machine .clocks) (machine .«lock_clocks»)) → Kept kind
+    plain-kept kind plain sameClocks sameLockClocks sameAccesses held fails =
+        let isThread = thread-in-range machine kind thread place value fails in
+        follows-plain
+        (tookStep kind thread place value)
+        (effect machine kind thread place value .machine)
+        refl
+        isThread
+        plain
+        (effect-sized machine (follows .sized) kind thread place value fails)
+        sameClocks
+        sameLockClocks
+        sameAccesses
+        (held isThread (state-fails machine kind thread place value fails))
+
+    store-kept : Kept STORE
+    unfolding effect storeEffect
+    store-kept = plain-kept STORE (omega arith) refl refl refl (λ isThread fails. follows .held)
+
+    flush-kept : Kept FLUSH
+    unfolding effect flushEffect
+    flush-kept = plain-kept FLUSH (omega arith) refl refl refl (λ isThread fails. follows .held)
+
+    evict-kept : Kept EVICT
+    unfolding effect evictEffect
+    evict-kept = plain-kept EVICT (omega arith) refl refl refl (λ isThread fails. follows .held)
+
+    flushLog-kept : Kept FLUSHLOG
+    unfolding effect flushLogEffect flushLogOf flushedTail
+    flushLog-kept = plain-kept FLUSHLOG (omega arith) refl refl refl (λ isThread fails. held-with thread isThread (flushLogOf (logOf machine thread)) refl)
+
+    fence-kept : Kept FENCE
+    unfolding effect fenceEffect fenceLogOf fencedTail
+    fence-kept = plain-kept FENCE (omega arith) refl refl refl (λ isThread fails. held-with thread isThread (fenceLogOf (logOf machine thread)) refl)
+
+    evictLog-kept : Kept EVICTLOG
+    unfolding effect evictLogEffect evictSlotOf
+    evictLog-kept = plain-kept EVICTLOG (omega arith) refl refl refl (λ isThread fails. held-with thread isThread (evictSlotOf (logOf machine thread) place) refl)
+
+    logRelease-kept : Kept LOGREL
+    unfolding effect logReleaseEffect stateTests logReleaseTests appendOf grownTail
+    logRelease-kept =
+        plain-kept LOGREL (omega arith) refl refl refl (λ isThread fails.
+        held-log (machine .logs) (machine .locks) (machine .clocks) (machine .«lock_clocks») (follows .held) thread (appendOf (logOf machine thread) (Release place (lockOf machine place .count))) (omega (arith, follows .sized .logs))
+        (λ lock isReleasing.
+        let sameLock : place ≡ lock = cc in
+        rw (← sameLock) (held-by (lockOf machine place .holder) thread (not-false _ (fails .1 .0)))))
+
+    prune-kept : Kept PRUNE
+    unfolding effect pruneEffect pruneOf
+    prune-kept =
+        let pruned = pruneOf (logOf machine thread) (oldestRegion (logOf machine thread)) in
+        let event = liveEvent (logOf machine thread) (oldestRegion (logOf machine thread) - 1) in
+        let uncounted = withLog machine thread pruned in
+        let same = pruned-same uncounted event in
+        plain-kept
+        PRUNE
+        (omega arith)
+        (same .clocks)
+        (same .lockClocks)
+        (same .accesses)
+        (λ isThread fails. pruned-held uncounted event (held-with thread isThread pruned refl))
+
+    load-kept : Kept LOAD
+    unfolding effect loadEffect
+    load-kept fails =
+        let isThread = thread-in-range machine LOAD thread place value fails in
+        let isCell = ltb-true place cellCount (not-false _ (place-in-range machine LOAD thread place value fails)) in
+        let next = tookStep LOAD thread place value in
+        record {
+          sized = effect-sized machine (follows .sized) LOAD thread place value fails;
+          inRange = range-next next isThread;
+          clocked = clocked-plain (machine .clocks) (machine .«lock_clocks») history next (follows .clocked) refl isThread (omega arith) (omega arith);
+          accessed = rw (follows .clocked .own thread isThread) (accessed-load history next (machine .accesses) (follows .accessed) refl isThread isCell (follows .sized .stamps) (own-at-most thread isThread place) refl);
+          held = follows .held;
+        }
+
+    log-kept : Kept LOG
+    unfolding effect logEffect stateTests logTests appendOf grownTail
+    log-kept fails =
+        let isThread = thread-in-range machine LOG thread place value fails in
+        let isCell = ltb-true place cellCount (not-false _ (place-in-range machine LOG thread place value fails)) in
+        let next = tookStep LOG thread place value in
+        let noRace = state-fails machine LOG thread place value fails .1 .1 .0 in
+        record {
+          sized = effect-sized machine (follows .sized) LOG thread place value fails;
+          inRange = range-next next isThread;
+          clocked = clocked-plain (machine .clocks) (machine .«lock_clocks») history next (follows .clocked) refl isThread (omega arith) (omega arith);
+          accessed = rw (follows .clocked .own thread isThread) (accessed-log history next (machine .accesses) (follows .accessed) refl isThread isCell (follows .sized .stamps) (own-at-most thread isThread place) refl (follows .sized .logged) (follows .sized .loggers) (λ earlier took. log-ordered machine history follows next refl isThread (omega arith) place isCell noRace earlier (took .isAccepted) (inr (took .isSort .0)) (took .isSort .1)));
+          held = held-with thread isThread (appendOf (logOf machine thread) (Store place (cachedAt (machine .cache) place))) refl;
+        }
+
+    acquire-kept : Kept ACQUIRE
+    unfolding effect acquireEffect stateTests acquireTests appendOf grownTail
+    acquire-kept fails =
+        let isThread = thread-in-range machine ACQUIRE thread place value fails in
+        let isLock = ltb-true place lockCount (not-false _ (place-in-range machine ACQUIRE thread place value fails)) in
+        let next = tookStep ACQUIRE thread place value in
+        let isFree = state-fails machine ACQUIRE thread place value fails .1 .0 in
+        record {
+          sized = effect-sized machine (follows .sized) ACQUIRE thread place value fails;
+          inRange = range-next next isThread;
+          clocked = clocked-acquire (machine .clocks) (machine .«lock_clocks») history next (follows .clocked) refl isThread (follows .sized .clocks) refl isLock;
+          accessed = accessed-plain history next (machine .accesses) (follows .accessed) (λ isAccess. ⊎-elim (omega arith) (omega arith) isAccess);
+          held =
+              held-acquire
+              (set (machine .logs) thread (appendOf (logOf machine thread) (Acquire place (lockOf machine place .count))))
+              (machine .locks)
+              (machine .clocks)
+              (machine .«lock_clocks»)
+              (held-with thread isThread (appendOf (logOf machine thread) (Acquire place (lockOf machine place .count))) refl)
+              thread
+              place
+              (record { holder = Thread thread; count = lockOf machine place .count; pruned = lockOf machine place .pruned })
+              (omega (arith, follows .sized .clocks))
+              (omega (arith, follows .sized .locks))
+              refl
+              isFree;
+        }
+
+    release-kept : Kept RELEASE
+    unfolding effect releaseEffect stateTests releaseTests endReleaseOf releasedTail
+    release-kept fails =
+        let isThread = thread-in-range machine RELEASE thread place value fails in
+        let isLock = ltb-true place lockCount (not-false _ (place-in-range machine RELEASE thread place value fails)) in
+        let next = tookStep RELEASE thread place value in
+        let isReleasing = releasing-lock (logOf machine thread .tail .releasing) place (not-false _ (state-fails machine RELEASE thread place value fails .0)) in
+        let isHolder = follows .held .releasesHeld thread place isReleasing in
+        record {
+          sized = effect-sized machine (follows .sized) RELEASE thread place value fails;
+          inRange = range-next next isThread;
+          clocked = clocked-release (machine .clocks) (machine .«lock_clocks») history next (follows .clocked) refl isThread (follows .sized .clocks) (follows .sized .lockClocks) refl isLock (follows .held .knowsLock place thread isHolder);
+          accessed = accessed-plain history next (machine .accesses) (follows .accessed) (λ isAccess. ⊎-elim (omega arith) (omega arith) isAccess);
+          held =
+              held-release
+              (machine .logs)
+              (machine .locks)
+              (machine .clocks)
+              (machine .«lock_clocks»)
+              (follows .held)
+              thread
+              place
+              (endReleaseOf (logOf machine thread))
+              (record { holder = Nobody; count = syncCount (lockOf machine place .count .0 + 1); pruned = lockOf machine place .pruned })
+              (clockOf machine thread)
+              (omega (arith, follows .sized .clocks))
+              (omega (arith, follows .sized .logs))
+              (omega (arith, follows .sized .locks))
+              isThread
+              refl
+              refl
+              isHolder;
+        }
+
+  -- each effect whose tests all failed keeps it
+  pub effect-follows : (kind : Kind) (thread place value : ℕ) → AllFail (testsOf machine kind thread place value) → Follows (effect machine kind thread place value .machine) (andThen history (tookStep kind thread place value))
+  effect-follows LOAD thread place value fails = load-kept thread place value fails
+  effect-follows LOG thread place value fails = log-kept thread place value fails
+  effect-follows STORE thread place value fails = store-kept thread place value fails
+  effect-follows ACQUIRE thread place value fails = acquire-kept thread place value fails
+  effect-follows LOGREL thread place value fails = logRelease-kept thread place value fails
+  effect-follows RELEASE thread place value fails = release-kept thread place value fails
+  effect-follows FLUSH thread place value fails = flush-kept thread place value fails
+  effect-follows FLUSHLOG thread place value fails = flushLog-kept thread place value fails
+  effect-follows FENCE thread place value fails = fence-kept thread place value fails
+  effect-follows PRUNE thread place value fails = prune-kept thread place value fails
+  effect-follows EVICT thread place value fails = evict-kept thread place value fails
+  effect-follows EVICTLOG thread place value fails = evictLog-kept thread place value fails
+
+  -- and so does a refused step
+  pub refused-follows : (next : Fed) → next .accepted ≡ false → Follows machine (andThen history next)
+  refused-follows next isRefused = record {
+    sized = follows .sized;
+    inRange =
+        old-or-next
+        history
+        next
+        (λ place. stepAt (andThen history next) place .thread < threadCount)
+        (λ place inside wasAccepted. rw (step-stays history (next ∷ []) place inside) (follows .inRange place wasAccepted))
+        (λ isAccepted. absurd (false≢true (sym isRefused ∙ isAccepted)));
+    clocked = clocked-refused (machine .clocks) (machine .«lock_clocks») history next (follows .clocked) isRefused;
+    accessed = accessed-refused history next (machine .accesses) (follows .accessed) isRefused;
+    held = follows .held;
+  }
+
+pub fresh-follows : (cells : List ℕ) → Follows (freshMachine cells) []
+unfolding freshMachine
+fresh-follows cells = record {
+  sized = fresh-sized cells;
+  inRange = λ place isAccepted. absurd (false≢true isAccepted);
+  clocked = clocked-start;
+  accessed = accessed-start;
+  held = held-start startClocks (replicate lockCount noClock);
+}
+
+-- every list of steps from a start call
+pub start-follows : (words : List ℕ) (steps : List Step) → Follows (machineAfter words steps) (historyAfter words steps)
+start-follows = start-keeps Follows fresh-follows refused-follows effect-follows

@@ -1,0 +1,101 @@
+-- RELEASE and PRUNE keep what holds of a machine and its history.
+use Prim.Native.Nat.{ℕ, suc, _+_, _-_, _≤_, _<_}
+use native.Mathlib.Decide.{decLt, ℕ-discrete}
+use native.Mathlib.Omega.{arith}
+use mathlib.Core.Path.{_≡_, refl, sym, ap, _∙_, subst}
+use mathlib.Core.Bool.{Bool, true, false, cond, not, _&&_, and-false, true≢false}
+use mathlib.Core.List.{List, [], _∷_}
+use mathlib.Core.Logic.{_⊎_, inl, inr, ⊎-elim, by-cases}
+use lib.ListN.{length, getD, set}
+use lib.Dec.{eqb, ltb}
+use borrow.Author.Tests.{ltb-true, ltb-false, eqb-false, not-false}
+use Rattle.answer.proofs.RefusalLaws.{AllFail}
+use Rattle.answer.proofs.BelowLaws.{someBelow-none}
+use Rattle.cache.specs.Cache.{cachedAt, persistedAt, isDurable}
+use Rattle.log.specs.Entries.{syncCount, liveCount, liveEvent, endReleaseOf, pruneOf}
+use Rattle.log.specs.Regions.{isAcquire, isRelease, oldestRegion, isFinished}
+use Rattle.log.specs.Ring.{isReleasing, releasedTail}
+use Rattle.log.specs.declared.entries.Event.{Event}
+use Rattle.log.specs.declared.entries.Event.the-variants.{Empty, Store, Acquire, Release}
+use Rattle.log.specs.declared.entries.Log.{Log}
+use Rattle.log.specs.declared.entries.SyncCount.{SyncCount}
+use Rattle.log.specs.declared.ring.Releasing.{Releasing}
+use Rattle.log.specs.declared.ring.Releasing.the-variants.{Nothing, Lock}
+use Rattle.log.proofs.LogInvariant.{LogHolds, release-holds, prune-holds}
+use Rattle.log.proofs.RegionLaws.{RegionIs, live-event, oldest-region}
+use Rattle.machine.specs.Effects.{releaseEffect, pruneEffect, countPruned, effect}
+use Rattle.machine.specs.Holds.{noLock, logOf, lockOf, withLog, withLock}
+use Rattle.machine.specs.Kinds.{RELEASE, PRUNE}
+use Rattle.machine.specs.Refusals.{awaitsRelease, logsUndurable}
+use Rattle.machine.specs.declared.Holder.the-variants.{Nobody, Thread}
+use Rattle.machine.specs.declared.Lock.{Lock as LockState}
+use Rattle.machine.specs.declared.Machine.{Machine}
+use Rattle.machine.proofs.Asked.{release-asked, PruneAsked, prune-asked}
+use Rattle.machine.proofs.Sizes.{Sized, effect-sized, withLog-sized, pruned-sized}
+use Rattle.machine.proofs.StepLaws.{testsOf}
+use Rattle.atomicity.specs.History.{Fed, stepAt}
+use Rattle.atomicity.proofs.Logged.{Entries, Made, Is, IsReleaseOf, IsAcquireOf, Keeps, still-is}
+use Rattle.atomicity.proofs.Locks.{Locks, LocksHold, PrunesHold, SameLocks, locks-keep, prunes-keep, ReleaseLocks, locks-release, count-grows, EndsInRelease, PruneLocks, prunes-prune}
+use Rattle.atomicity.proofs.Cells.{Version, Chain, linked, unlogged, In, here, there, CellsHold, PersistCell, made-equal, unchanged, cells-keep}
+use Rattle.atomicity.proofs.HistoryRuns.{tookStep}
+use Rattle.atomicity.proofs.Places.{PlacesHold, NewPlace, thenFed, madeBy, makes, made-new, places-step}
+use Rattle.atomicity.proofs.Times.{Formed, aStore, anAcquire, aRelease, TimesHold, times-keep}
+use Rattle.atomicity.proofs.Views.{logAt, by-log, keep-view, log-same, log-other}
+use Rattle.atomicity.proofs.World.{Ghost, World, HeadAt, at-start, after-release, at-acquire, Quiet, entriesOf, locksOf, contentsOf, quiet-place, head-kept}
+use Rattle.atomicity.proofs.WorldAppends.{by-lock}
+
+module _ {start : List ℕ} {machine : Machine} {history : List Fed} {ghost : Ghost} (world : World start machine history ghost) (thread place value : ℕ) where
+  pub world-release : AllFail (testsOf machine RELEASE thread place value) → World start (effect machine RELEASE thread place value .machine) (thenFed history (tookStep RELEASE thread place value)) ghost
+  unfolding effect releaseEffect endReleaseOf releasedTail
+  world-release fails =
+      let asked = release-asked machine thread place value fails in
+      let fed = tookStep RELEASE thread place value in
+      let after = effect machine RELEASE thread place value .machine in
+      let log = logAt (machine .logs) thread in
+      let holds = world .logs thread (asked .inThread) in
+      let inLogs : thread < length (machine .logs) = rw (world .sized .logs) (asked .inThread) in
+      let inLocks : place < length (machine .locks) = rw (world .sized .locks) (asked .inLock) in
+      let freed : LockState = record { holder = Nobody; count = syncCount (lockOf machine place .count .0 + 1); pruned = lockOf machine place .pruned } in
+      let keeps : Keeps (entriesOf machine ghost) (entriesOf after ghost) (length history) = keep-view (machine .logs) (ghost .event) (ghost .time) (length history) thread (endReleaseOf log) inLogs refl (omega arith) (omega arith) in
+      let heads : (other : ℕ) → logAt (after .logs) other .head .0 ≡ logAt (machine .logs) other .head .0 = by-log (λ other l. l .head .0 ≡ logAt (machine .logs) other .head .0) (machine .logs) thread (endReleaseOf log) inLogs refl (λ other differs. refl) in
+      let positive = holds .headPositive in
+      let within = holds .headNext in
+      let durable = asked .lastDurable in
+      let step : ReleaseLocks (entriesOf machine ghost) (entriesOf after ghost) (length history) thread place (locksOf machine) (locksOf after) = record {
+        keeps = keeps;
+        isReleasing = asked .isReleasingIt;
+        lastDurable = omega arith;
+        releasingSelf = ap (λ (l : Log). l .tail .releasing) (log-same (machine .logs) thread (endReleaseOf log) inLogs);
+        releasingOther = λ other differs. ap (λ (l : Log). l .tail .releasing) (log-other (machine .logs) thread other (endReleaseOf log) differs);
+        holderSelf = by-lock (λ lock state. lock ≡ place → state .holder ≡ Nobody) (machine .locks) place freed inLocks (λ same. refl) (λ other differs same. absurd (differs same)) place refl;
+        holderOther = by-lock (λ other state. (other ≡ place → ⊥) → state .holder ≡ lockOf machine other .holder) (machine .locks) place freed inLocks (λ differs. absurd (differs refl)) (λ other differs _. refl);
+        countSelf = by-lock (λ lock state. lock ≡ place → state .count .0 ≡ suc (lockOf machine place .count .0)) (machine .locks) place freed inLocks (λ same. omega arith) (λ other differs same. absurd (differs same)) place refl;
+        countOther = by-lock (λ other state. (other ≡ place → ⊥) → state .count .0 ≡ lockOf machine other .count .0) (machine .locks) place freed inLocks (λ differs. absurd (differs refl)) (λ other differs _. refl);
+      } in
+      let prunedSame : (lock : ℕ) → lockOf after lock .pruned .0 ≡ lockOf machine lock .pruned .0 = by-lock (λ other state. state .pruned .0 ≡ lockOf machine other .pruned .0) (machine .locks) place freed inLocks refl (λ other differs. refl) in
+      let last = world .locks .lastWhile (asked .isReleasingIt) in
+      let counted = world .places .nextIs thread (asked .inThread) in
+      let numbered = last .1 in
+      let atLast : madeBy (thenFed history fed) thread (suc (length history)) ≡ last .0 = made-new history fed thread ∙ rw (and-false (eqb thread thread)) (omega arith) in
+      record {
+        sized = effect-sized machine (world .sized) RELEASE thread place value fails;
+        logs = by-log (λ other l. other < 4 → LogHolds l (ghost .event other)) (machine .logs) thread (endReleaseOf log) inLogs (λ _. release-holds log (ghost .event thread) holds) (λ other differs. world .logs other);
+        cacheSized = world .cacheSized;
+        durableKept = world .durableKept;
+        locks = locks-release step (world .locks);
+        prunes = prunes-keep keeps heads prunedSame (count-grows step (world .locks)) (world .prunes);
+        heads = λ other inRange. head-kept keeps heads (λ u r. refl) other (world .heads other inRange);
+        cells = cells-keep keeps (λ cell. refl) (λ cell. refl) (λ cell. unchanged refl (λ other number isIn live gone. let same = heads other in omega arith)) (world .cells);
+        places =
+            places-step
+            (record {
+              grows = keeps .grows;
+              thread = λ isAccepted. asked .inThread;
+              nextNew = λ other inRange. rw (and-false (eqb thread other)) (keeps .nextSame other ∙ omega arith);
+              countGrows = count-grows step (world .locks);
+              newRelease = λ isAccepted isKind. (lockOf machine place .count .0, rw atLast (still-is (keeps .grows) (last .2)), let more = step .countSelf in omega arith);
+              newAcquire = λ isAccepted isKind. absurd (omega arith);
+            })
+            (world .places);
+        times = times-keep fed keeps (world .times);
+      }

@@ -1,0 +1,4 @@
+-- Laws of the cache's definitions, and of the loops over a line.
+pub mod Lines
+pub mod CacheLaws
+pub mod Fences

@@ -1,0 +1,12 @@
+-- `log::ring::Tail::fenced` is `fencedTail`, field by field.
+use mathlib.Core.Path.{refl}
+use Rattle.log.specs.Ring.{fencedTail}
+use Rattle.log.proofs.ring.Tail.fenced.Statement.{statement}
+use Rattle.log.proofs.ring.Tail.fenced.Tie as tie
+
+returns : tie.Need-returns
+unfolding fencedTail
+returns c = refl
+
+pub fenced-spec : {M : Type 1} → statement M
+fenced-spec = tie.close (tie.spec returns)

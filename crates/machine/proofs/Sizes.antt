@@ -1,0 +1,171 @@
+-- The machine's arrays keep their lengths, and what stands at a number after a change of one of them.
+use Prim.Native.Nat.{ℕ, _<_, _-_}
+use mathlib.Core.Path.{_≡_, refl, sym, _∙_, subst}
+use mathlib.Core.Logic.{_≢_}
+use mathlib.Core.List.{List}
+use lib.ListN.{length, getD, set, replicate, length-set}
+use Rattle.answer.specs.declared.Answer.the-variants.{Accepted, WrongLength}
+use lib.Seq.{getD-set-same, getD-set-other}
+use Rattle.answer.proofs.RefusalLaws.{AllFail}
+use Rattle.log.specs.Entries.{liveEvent, pruneOf}
+use Rattle.log.specs.Regions.{oldestRegion}
+use Rattle.log.specs.declared.entries.Event.{Event}
+use Rattle.log.specs.declared.entries.Event.the-variants.{Empty, Store, Acquire, Release}
+use Rattle.log.specs.declared.entries.Log.{Log}
+use Rattle.machine.specs.Clocks.{loadedOf, loggedCellOf}
+use Rattle.machine.specs.Effects.{loadEffect, logEffect, storeEffect, acquireEffect, logReleaseEffect, releaseEffect, flushEffect, flushLogEffect, fenceEffect, pruneEffect, countPruned, evictEffect, evictLogEffect, effect}
+use Rattle.machine.specs.Holds.{noLog, noLock, noClock, logOf, lockOf, withLog, freshMachine, startOf}
+use Rattle.machine.specs.Kinds.{Kind, LOAD, LOG, STORE, ACQUIRE, LOGREL, RELEASE, FLUSH, FLUSHLOG, FENCE, PRUNE, EVICT, EVICTLOG}
+use Rattle.machine.specs.Runs.{Step, after}
+use Rattle.machine.specs.declared.Machine.{Machine}
+use Rattle.machine.specs.declared.Stepped.{Stepped}
+use Rattle.machine.proofs.StepLaws.{testsOf, after-keeps}
+use mathlib.Core.Bool.{Bool, true, false, cond}
+use lib.Dec.{eqb}
+
+-- the lengths of the machine's arrays
+pub record Sized (machine : Machine) : Type 0 where
+  pub logs : length (machine .logs) ≡ 4
+  pub clocks : length (machine .clocks) ≡ 4
+  pub lockClocks : length (machine .«lock_clocks») ≡ 8
+  pub locks : length (machine .locks) ≡ 8
+  pub stamps : length (machine .accesses .stamps) ≡ 512
+  pub logged : length (machine .accesses .logged) ≡ 128
+  pub loggers : length (machine .accesses .loggers) ≡ 128
+
+pub pruned-sized : (machine : Machine) (event : Event) → Sized machine → Sized (countPruned machine event)
+pruned-sized machine Empty sized = sized
+pruned-sized machine (Store cell old) sized = sized
+pruned-sized machine (Acquire lock count) sized = sized
+pruned-sized machine (Release lock count) sized = record {
+  logs = sized .logs;
+  clocks = sized .clocks;
+  lockClocks = sized .lockClocks;
+  locks = simp length-set (sized .locks);
+  stamps = sized .stamps;
+  logged = sized .logged;
+  loggers = sized .loggers;
+}
+
+pub withLog-sized : (machine : Machine) (thread : ℕ) (log : Log) → Sized machine → Sized (withLog machine thread log)
+withLog-sized machine thread log sized = record {
+  logs = simp length-set (sized .logs);
+  clocks = sized .clocks;
+  lockClocks = sized .lockClocks;
+  locks = sized .locks;
+  stamps = sized .stamps;
+  logged = sized .logged;
+  loggers = sized .loggers;
+}
+
+pub effect-sized : (machine : Machine) → Sized machine → (kind : Kind) (thread place value : ℕ) → AllFail (testsOf machine kind thread place value) → Sized (effect machine kind thread place value .machine)
+unfolding effect loadEffect logEffect storeEffect acquireEffect logReleaseEffect releaseEffect flushEffect flushLogEffect fenceEffect pruneEffect evictEffect evictLogEffect loadedOf loggedCellOf
+effect-sized machine sized LOAD thread place value fails = record {
+  logs = sized .logs;
+  clocks = sized .clocks;
+  lockClocks = sized .lockClocks;
+  locks = sized .locks;
+  stamps = simp length-set (sized .stamps);
+  logged = sized .logged;
+  loggers = sized .loggers;
+}
+effect-sized machine sized LOG thread place value fails = record {
+  logs = simp length-set (sized .logs);
+  clocks = sized .clocks;
+  lockClocks = sized .lockClocks;
+  locks = sized .locks;
+  stamps = simp length-set (sized .stamps);
+  logged = simp length-set (sized .logged);
+  loggers = simp length-set (sized .loggers);
+}
+effect-sized machine sized STORE thread place value fails = record {
+  logs = sized .logs;
+  clocks = sized .clocks;
+  lockClocks = sized .lockClocks;
+  locks = sized .locks;
+  stamps = sized .stamps;
+  logged = sized .logged;
+  loggers = sized .loggers;
+}
+effect-sized machine sized ACQUIRE thread place value fails = record {
+  logs = simp length-set (sized .logs);
+  clocks = simp length-set (sized .clocks);
+  lockClocks = sized .lockClocks;
+  locks = simp length-set (sized .locks);
+  stamps = sized .stamps;
+  logged = sized .logged;
+  loggers = sized .loggers;
+}
+effect-sized machine sized LOGREL thread place value fails = withLog-sized machine thread _ sized
+effect-sized machine sized RELEASE thread place value fails = record {
+  logs = simp length-set (sized .logs);
+  clocks = simp length-set (sized .clocks);
+  lockClocks = simp length-set (sized .lockClocks);
+  locks = simp length-set (sized .locks);
+  stamps = sized .stamps;
+  logged = sized .logged;
+  loggers = sized .loggers;
+}
+effect-sized machine sized FLUSH thread place value fails = record {
+  logs = sized .logs;
+  clocks = sized .clocks;
+  lockClocks = sized .lockClocks;
+  locks = sized .locks;
+  stamps = sized .stamps;
+  logged = sized .logged;
+  loggers = sized .loggers;
+}
+effect-sized machine sized FLUSHLOG thread place value fails = withLog-sized machine thread _ sized
+effect-sized machine sized FENCE thread place value fails = record {
+  logs = simp length-set (sized .logs);
+  clocks = sized .clocks;
+  lockClocks = sized .lockClocks;
+  locks = sized .locks;
+  stamps = sized .stamps;
+  logged = sized .logged;
+  loggers = sized .loggers;
+}
+effect-sized machine sized PRUNE thread place value fails =
+    pruned-sized (withLog machine thread (pruneOf (logOf machine thread) (oldestRegion (logOf machine thread)))) (liveEvent (logOf machine thread) (oldestRegion (logOf machine thread) - 1)) (withLog-sized machine thread _ sized)
+effect-sized machine sized EVICT thread place value fails = record {
+  logs = sized .logs;
+  clocks = sized .clocks;
+  lockClocks = sized .lockClocks;
+  locks = sized .locks;
+  stamps = sized .stamps;
+  logged = sized .logged;
+  loggers = sized .loggers;
+}
+effect-sized machine sized EVICTLOG thread place value fails = withLog-sized machine thread _ sized
+
+pub fresh-sized : (cells : List ℕ) → Sized (freshMachine cells)
+unfolding freshMachine
+fresh-sized cells = record {
+  logs = refl;
+  clocks = refl;
+  lockClocks = refl;
+  locks = refl;
+  stamps = refl;
+  logged = refl;
+  loggers = refl;
+}
+
+pub start-sized : (words : List ℕ) → Sized (startOf words .machine)
+unfolding startOf
+start-sized words = by-length (eqb (length words) 128)
+  where
+    by-length : (isLength : Bool) → Sized (cond {A = Stepped} isLength (record { answer = Accepted 0; machine = freshMachine words }) (record { answer = WrongLength; machine = freshMachine (replicate 128 0) }) .machine)
+    by-length true = fresh-sized words
+    by-length false = fresh-sized (replicate 128 0)
+
+-- every machine that the start call and steps lead to has its arrays whole
+pub after-sized : (words : List ℕ) (steps : List Step) → Sized (after (startOf words .machine) steps)
+after-sized words steps = after-keeps Sized effect-sized (startOf words .machine) (start-sized words) steps
+
+-- a log that is put in place is found there, and the other threads' logs are as they were
+pub logOf-same : (machine : Machine) (thread : ℕ) (log : Log) → Sized machine → thread < 4 → logOf (withLog machine thread log) thread ≡ log
+logOf-same machine thread log sized inRange =
+    getD-set-same (machine .logs) thread log noLog (rw (← sized .logs) at inRange)
+
+pub logOf-other : (machine : Machine) (thread other : ℕ) (log : Log) → other ≢ thread → logOf (withLog machine thread log) other ≡ logOf machine other
+logOf-other machine thread other log differs = getD-set-other (machine .logs) thread other log noLog differs
