@@ -31,6 +31,10 @@ pub mod Whole
 pub mod WholeRuns
 pub mod Recovered
 pub mod Demand3Holds
+pub mod LogSumHolds
+pub mod ReleaseSteps
+pub mod PrunedCounts
+pub mod PrunedLaw
 pub mod Regions
 pub mod RegionsPrune
 pub mod RegionsAppend

@@ -1,10 +1,10 @@
 -- What an entry records, the words that it is persisted as, and what appends, flushes, fences, evictions and prunings do to a log.
 use Prim.Native.Nat.{ℕ, zero, suc, _+_, _-_, _*_}
-use mathlib.Core.Bool.{Bool, not}
+use mathlib.Core.Bool.{Bool, cond, not, _&&_}
 use mathlib.Core.List.{List, [], _∷_}
 use lib.ListN.{getD, set, replicate}
 use lib.Seq.{sets}
-use lib.Dec.{eqb}
+use lib.Dec.{eqb, leb}
 use Rattle.answer.specs.Lists.{someBelow}
 use Rattle.answer.specs.Refusals.{Test, _⇒_, unless}
 use Rattle.answer.specs.declared.Answer.the-variants.{Accepted, NoLiveEntry}
@@ -174,3 +174,15 @@ pruneOf log count = record {
   head = lsn (log .head .0 + count);
   tail = log .tail;
 }
+
+-- the head moved up to this LSN; one that is neither live nor the next changes nothing
+unfoldable pub pruneToOf : Log → ℕ → Log
+pruneToOf log number =
+    cond (leb (log .head .0) number && leb number (log .tail .next .0))
+    (record {
+      cached = log .cached;
+      persisted = log .persisted;
+      head = lsn number;
+      tail = log .tail;
+    })
+    log

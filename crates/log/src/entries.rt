@@ -1,6 +1,16 @@
 // What entries say, and the log that holds them.
+ghost use mathlib.Core.Path.{_≡_};
+ghost use Prim.Native.Nat.{_+_, _-_, _*_, _<_};
+ghost use lib.Seq.{sets};
+ghost use lib.Dec.{eqb};
+ghost use Rattle.answer.specs.Lists.{someBelow};
+ghost use Rattle.log.specs.Ring.{slotOf};
+ghost use Rattle.log.specs.Entries.{kindOf, placeOf, valueOf, wordsOf, freshLog, liveCount, liveEvent, closesOf, appendedOf, flushLogOf, endReleaseOf, fenceLogOf, evictedOf, pruneToOf};
+ghost use Rattle.log.specs.Regions.{isAcquire, isRelease, loggedOf, oldestRegion, isFinished};
 use crate::ring::Lsn;
+use crate::ring::Releasing;
 use crate::ring::Tail;
+use crate::ring::append_to;
 use answer::Answer;
 
 // How often a lock was released (document 01: lock count). Never added to or compared with an LSN.
@@ -23,7 +33,7 @@ pub struct Entry {
 // A thread's log: 64 cached slots (document 01: seen), the words of its 64 persisted ones (kept), the head and the thread's record.
 pub struct Log {
     cached: [Entry; 64],
-    persisted: [u64; 256],
+    pub(crate) persisted: [u64; 256],
     head: Lsn,
     tail: Tail,
 }
@@ -38,4 +48,350 @@ pub enum Found {
 pub struct Changed {
     pub answer: Answer,
     pub log: Log,
+}
+
+// By how much the first number is larger: 0 where it is not.
+fn excess(more: u32, less: u32) -> u32
+    ensures { λ r. ⌜ r ≡ more - less ⌝ }
+{
+    if less < more { more - less } else { 0 }
+}
+
+// The slot of the LSN that is so many after this one.
+fn slot_after(lsn: Lsn, count: usize) -> usize
+    ensures { λ r. ⌜ r ≡ slotOf (lsn .0 + count) ⌝ }
+{
+    (lsn.0 as usize % 64 + count % 64) % 64
+}
+
+// Of so many LSNs from this one on, one sits in the slot.
+fn has_slot(first: Lsn, count: u32, slot: usize) -> bool
+    ensures { λ r. ⌜ r ≡ someBelow count (λ index. eqb (slotOf (first .0 + index)) slot) ⌝ }
+{
+    if 63 < slot {
+        return false;
+    }
+    let ahead = (slot + 64 - first.0 as usize % 64) % 64;
+    ahead < count as usize
+}
+
+// Writes the words of an entry at those of its slot.
+fn persist(persisted: &mut [u64; 256], slot: usize, entry: Entry)
+    requires { ⌜ slot < 64 ⌝ }
+    ensures { λ _. ⌜ now (persisted .exit) ≡ sets (now (persisted .entry)) (slot * 4) (wordsOf entry) ⌝ }
+{
+    let event = entry.event;
+    let at = slot * 4;
+    persisted[at] = event.kind();
+    persisted[at + 1] = event.place();
+    persisted[at + 2] = event.value();
+    persisted[at + 3] = entry.lsn.0 as u64;
+}
+
+impl Event {
+    // The first word of an entry.
+    fn kind(self) -> u64
+        ensures { λ r. ⌜ r ≡ kindOf self ⌝ }
+    {
+        match self {
+            Event::Empty => 0,
+            Event::Store { cell: _, old: _ } => 1,
+            Event::Acquire { lock: _, count: _ } => 2,
+            Event::Release { lock: _, count: _ } => 3,
+        }
+    }
+
+    // The second word of an entry: its cell or lock.
+    fn place(self) -> u64
+        ensures { λ r. ⌜ r ≡ placeOf self ⌝ }
+    {
+        match self {
+            Event::Empty => 0,
+            Event::Store { cell, old: _ } => cell as u64,
+            Event::Acquire { lock, count: _ } => lock as u64,
+            Event::Release { lock, count: _ } => lock as u64,
+        }
+    }
+
+    // The third word of an entry: the cell's old content, or the lock's count.
+    fn value(self) -> u64
+        ensures { λ r. ⌜ r ≡ valueOf self ⌝ }
+    {
+        match self {
+            Event::Empty => 0,
+            Event::Store { cell: _, old } => old,
+            Event::Acquire { lock: _, count } => count.0 as u64,
+            Event::Release { lock: _, count } => count.0 as u64,
+        }
+    }
+
+    // The lock that an entry begins to release.
+    fn closes(self) -> Releasing
+        ensures { λ r. ⌜ r ≡ closesOf self ⌝ }
+    {
+        match self {
+            Event::Empty => Releasing::Nothing,
+            Event::Store { cell: _, old: _ } => Releasing::Nothing,
+            Event::Acquire { lock: _, count: _ } => Releasing::Nothing,
+            Event::Release { lock, count: _ } => Releasing::Lock(lock),
+        }
+    }
+
+    // The entry is an ACQUIRE.
+    fn is_acquire(self) -> bool
+        ensures { λ r. ⌜ r ≡ isAcquire self ⌝ }
+    {
+        match self {
+            Event::Empty => false,
+            Event::Store { cell: _, old: _ } => false,
+            Event::Acquire { lock: _, count: _ } => true,
+            Event::Release { lock: _, count: _ } => false,
+        }
+    }
+
+    // The entry is a RELEASE.
+    fn is_release(self) -> bool
+        ensures { λ r. ⌜ r ≡ isRelease self ⌝ }
+    {
+        match self {
+            Event::Empty => false,
+            Event::Store { cell: _, old: _ } => false,
+            Event::Acquire { lock: _, count: _ } => false,
+            Event::Release { lock: _, count: _ } => true,
+        }
+    }
+}
+
+impl Log {
+    // The log of a thread that has made no entry.
+    pub fn new() -> Log
+        ensures { λ r. ⌜ r ≡ freshLog ⌝ }
+    {
+        let untouched = Entry {
+            lsn: Lsn(0),
+            event: Event::Empty,
+        };
+        let cached = [untouched; 64];
+        let persisted = [0u64; 256];
+        let tail = Tail::fresh();
+        Log {
+            cached,
+            persisted,
+            head: Lsn(1),
+            tail,
+        }
+    }
+
+    // How many entries are live.
+    pub fn live_count(self) -> usize
+        ensures { λ r. ⌜ r ≡ liveCount self ⌝ }
+    {
+        let next = self.tail.next.0;
+        let head = self.head.0;
+        excess(next, head) as usize
+    }
+
+    // The LSN of the oldest live entry.
+    pub fn head_lsn(self) -> Lsn
+        ensures { λ r. ⌜ r ≡ self .head ⌝ }
+    {
+        self.head
+    }
+
+    // The thread's record.
+    pub fn tail(self) -> Tail
+        ensures { λ r. ⌜ r ≡ self .tail ⌝ }
+    {
+        self.tail
+    }
+
+    // FLUSHLOG: the entries made so far are flushed.
+    pub fn flush(mut self) -> Log
+        ensures { λ r. ⌜ r ≡ flushLogOf self ⌝ }
+    {
+        let before = self.tail;
+        let tail = before.flushed_all();
+        self.tail = tail;
+        self
+    }
+
+    // RELEASE: the thread is releasing nothing any more.
+    pub fn end_release(mut self) -> Log
+        ensures { λ r. ⌜ r ≡ endReleaseOf self ⌝ }
+    {
+        let before = self.tail;
+        let tail = before.released();
+        self.tail = tail;
+        self
+    }
+
+    // What the live entry says that has so many live ones before it.
+    pub fn live_event(self, index: usize) -> Event
+        ensures { λ r. ⌜ r ≡ liveEvent self index ⌝ }
+    {
+        let cached = self.cached;
+        let slot = slot_after(self.head, index);
+        let entry = cached[slot];
+        entry.event
+    }
+
+    // The log with one entry more, beside its LSN; or a refusal (6, then 5), and the log as it was.
+    pub fn append(mut self, event: Event) -> Changed
+        ensures { λ r. ⌜ r ≡ appendedOf self event ⌝ }
+    {
+        let before = self.tail;
+        let next = before.next;
+        let grown = append_to(before, self.head, event.closes());
+        let answer = grown.answer;
+        let tail = grown.tail;
+        if answer::number(answer) != 0 {
+            return Changed { answer, log: self };
+        }
+        let slot = next.0 as usize % 64;
+        self.cached[slot] = Entry { lsn: next, event };
+        self.tail = tail;
+        Changed { answer, log: self }
+    }
+
+    // FENCE: the flushed entries become persisted and durable.
+    pub fn fence(mut self) -> Log
+        ensures { λ r. ⌜ r ≡ fenceLogOf self ⌝ }
+    {
+        let before = self.tail;
+        let durable = before.durable;
+        let flushed = before.flushed;
+        let cached = self.cached;
+        let mut persisted = self.persisted;
+        let count = excess(flushed.0, durable.0) as usize;
+        let mut done = 0;
+        while done < count {
+            let slot = slot_after(durable, done + 1);
+            let entry = cached[slot];
+            persist(&mut persisted, slot, entry);
+            done += 1;
+        }
+        self.persisted = persisted;
+        let tail = before.fenced();
+        self.tail = tail;
+        self
+    }
+
+    // EVICTLOG: the entry in the slot becomes persisted, and not durable; or 18 where no live one sits there, and the log as it was.
+    pub fn evict_slot(mut self, slot: usize) -> Changed
+        ensures { λ r. ⌜ r ≡ evictedOf self slot ⌝ }
+    {
+        let head = self.head;
+        let next = self.tail.next.0;
+        if has_slot(head, excess(next, head.0), slot) {
+            let cached = self.cached;
+            let mut persisted = self.persisted;
+            let entry = cached[slot];
+            persist(&mut persisted, slot, entry);
+            self.persisted = persisted;
+            Changed {
+                answer: Answer::Accepted(0),
+                log: self,
+            }
+        } else {
+            Changed {
+                answer: Answer::NoLiveEntry,
+                log: self,
+            }
+        }
+    }
+
+    // PRUNE: the head moves up to this LSN; one that is neither live nor the next changes nothing.
+    pub fn prune_to(mut self, head: Lsn) -> Log
+        ensures { λ r. ⌜ r ≡ pruneToOf self (head .0) ⌝ }
+    {
+        let first = self.head.0;
+        let next = self.tail.next.0;
+        if head.0 < first {
+            return self;
+        }
+        if next < head.0 {
+            return self;
+        }
+        self.head = head;
+        self
+    }
+
+    // Where the current region has the cell's entry.
+    pub fn logged(self, cell: usize) -> Found
+        ensures { λ r. ⌜ r ≡ loggedOf self cell ⌝ }
+    {
+        let head = self.head;
+        let cached = self.cached;
+        let mut left = excess(self.tail.next.0, head.0);
+        while 0 < left {
+            left -= 1;
+            let slot = slot_after(head, left as usize);
+            let entry = cached[slot];
+            let event = entry.event;
+            match event {
+                Event::Empty => return Found::Nowhere,
+                Event::Store {
+                    cell: logged,
+                    old: _,
+                } => {
+                    if logged as usize == cell {
+                        return Found::At(Lsn(head.0 + left));
+                    }
+                }
+                Event::Acquire { lock: _, count: _ } => return Found::Nowhere,
+                Event::Release { lock: _, count: _ } => return Found::Nowhere,
+            }
+        }
+        Found::Nowhere
+    }
+
+    // How many entries the oldest region has that is not pruned: 0 where no entry is live.
+    pub fn oldest_region(self) -> usize
+        ensures { λ r. ⌜ r ≡ oldestRegion self ⌝ }
+    {
+        let head = self.head;
+        let cached = self.cached;
+        let live = excess(self.tail.next.0, head.0) as usize;
+        if live == 0 {
+            return 0;
+        }
+        let slot = slot_after(head, 0);
+        let entry = cached[slot];
+        let event = entry.event;
+        if event.is_release() {
+            return 1;
+        }
+        let mut count = 1;
+        while count < live {
+            let slot = slot_after(head, count);
+            let entry = cached[slot];
+            let event = entry.event;
+            if event.is_acquire() {
+                return count;
+            }
+            count += 1;
+            if event.is_release() {
+                return count;
+            }
+        }
+        count
+    }
+
+    // The oldest region is finished: its RELEASE step was taken, or the next ACQUIRE is there.
+    pub fn is_finished(self) -> bool
+        ensures { λ r. ⌜ r ≡ isFinished self ⌝ }
+    {
+        let region = self.oldest_region();
+        if region < self.live_count() {
+            return true;
+        }
+        if region == 0 {
+            return false;
+        }
+        if self.live_event(region - 1).is_release() {
+            let tail = self.tail;
+            return !tail.is_releasing();
+        }
+        false
+    }
 }

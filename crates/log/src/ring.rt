@@ -21,10 +21,10 @@ pub enum Releasing {
 
 // The thread's record: the next LSN, the last durable one, the last flushed one, and the lock being released.
 pub struct Tail {
-    next: Lsn,
-    durable: Lsn,
-    flushed: Lsn,
-    releasing: Releasing,
+    pub(crate) next: Lsn,
+    pub(crate) durable: Lsn,
+    pub(crate) flushed: Lsn,
+    pub(crate) releasing: Releasing,
 }
 
 // What an append answers, beside the thread's record after it.
@@ -43,7 +43,7 @@ pub fn next_slot(slot: usize) -> usize
 
 impl Lsn {
     // How many LSNs there are from an earlier one on, up to this one and without it: 0 where the other is not earlier.
-    pub fn since(self, earlier: Lsn) -> u32
+    pub(crate) fn since(self, earlier: Lsn) -> u32
         ensures { λ r. ⌜ r ≡ self .0 - earlier .0 ⌝ }
     {
         if earlier.0 < self.0 {
@@ -68,7 +68,7 @@ impl Releasing {
 
 impl Tail {
     // The record of a thread that has made no entry.
-    pub fn fresh() -> Tail
+    pub(crate) fn fresh() -> Tail
         ensures { λ r. ⌜ r ≡ freshTail ⌝ }
     {
         Tail {
@@ -91,13 +91,6 @@ impl Tail {
         ensures { λ r. ⌜ r ≡ self .durable ⌝ }
     {
         self.durable
-    }
-
-    // The last LSN whose entry is flushed.
-    pub fn flushed_lsn(self) -> Lsn
-        ensures { λ r. ⌜ r ≡ self .flushed ⌝ }
-    {
-        self.flushed
     }
 
     // The thread has made a RELEASE entry whose RELEASE step is still to come.
@@ -123,7 +116,7 @@ impl Tail {
     }
 
     // FLUSHLOG: every entry made so far is flushed.
-    pub fn flushed_all(self) -> Tail
+    pub(crate) fn flushed_all(self) -> Tail
         ensures { λ r. ⌜ r ≡ flushedTail self ⌝ }
     {
         let next = self.next;
@@ -138,7 +131,7 @@ impl Tail {
     }
 
     // FENCE: every flushed entry is durable.
-    pub fn fenced(self) -> Tail
+    pub(crate) fn fenced(self) -> Tail
         ensures { λ r. ⌜ r ≡ fencedTail self ⌝ }
     {
         let next = self.next;
@@ -153,7 +146,7 @@ impl Tail {
     }
 
     // RELEASE: the thread is no more releasing a lock.
-    pub fn released(self) -> Tail
+    pub(crate) fn released(self) -> Tail
         ensures { λ r. ⌜ r ≡ releasedTail self ⌝ }
     {
         let next = self.next;
@@ -170,7 +163,7 @@ impl Tail {
 }
 
 // One entry more: its LSN and the record after it, or the refusal and the record as it was. The work of `append`, by value.
-pub fn grow(tail: Tail, head: Lsn, closes: Releasing) -> Grown
+pub(crate) fn grow(tail: Tail, head: Lsn, closes: Releasing) -> Grown
     ensures { λ r. ⌜ r ≡ growOf tail (head .0) closes ⌝ }
 {
     let next = tail.next;

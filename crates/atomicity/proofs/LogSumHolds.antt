@@ -1,0 +1,212 @@
+-- The log's sum holds: each step changes the number of live entries by those that it appends and those that it frees.
+use Prim.Native.Nat.{ℕ, zero, suc, _+_, _-_, _<_, _≤_}
+use mathlib.Core.Path.{_≡_, refl}
+use mathlib.Core.Bool.{Bool, true, false, cond, _&&_, _||_, true≢false}
+use mathlib.Core.List.{List, [], _∷_, map}
+use native.Mathlib.Omega.{arith}
+use lib.Dec.{eqb}
+use lib.ListN.{length, getD, set, replicate}
+use borrow.Author.Tests.{eqb-false}
+use Rattle.answer.specs.Answer.{isAccepted, valueOf}
+use Rattle.answer.specs.declared.Answer.{Answer}
+use Rattle.answer.specs.declared.Answer.the-variants.{Accepted, NoSuchKind, NoSuchThread, NoSuchPlace, UnusedField, LogFull, LsnsUsedUp, Releasing, Race, AlreadyLogged, NotLogged, EntryNotDurable, LockHeld, LockNotHeld, NotReleasing, NothingToPrune, EarlierReleaseNotPruned, CellNotDurable, NoLiveEntry, Unreadable, WrongLength, BadHead, BadEntry, Cyclic}
+use Rattle.answer.proofs.RefusalLaws.{AllFail}
+use Rattle.cache.specs.Cache.{cellCount}
+use Rattle.log.specs.Entries.{liveCount, liveEvent, freshLog, appendOf, flushLogOf, endReleaseOf, fenceLogOf, evictSlotOf, pruneOf}
+use Rattle.log.specs.Regions.{isAcquire, isRelease, goesOn, oldestRegion}
+use Rattle.log.specs.Ring.{freshTail, grownTail, flushedTail, fencedTail, releasedTail}
+use Rattle.log.specs.declared.entries.Log.{Log}
+use Rattle.machine.specs.Effects.{loadEffect, logEffect, storeEffect, acquireEffect, logReleaseEffect, releaseEffect, flushEffect, flushLogEffect, fenceEffect, pruneEffect, evictEffect, evictLogEffect, effect}
+use Rattle.machine.specs.Holds.{threadCount, noLog, logOf, freshMachine, startOf}
+use Rattle.machine.specs.Kinds.{Kind, LOAD, LOG, STORE, ACQUIRE, LOGREL, RELEASE, FLUSH, FLUSHLOG, FENCE, PRUNE, EVICT, EVICTLOG}
+use Rattle.machine.specs.Runs.{Step, stepWith, after}
+use Rattle.machine.specs.declared.Machine.{Machine}
+use Rattle.machine.specs.declared.Stepped.{Stepped}
+use Rattle.machine.proofs.Sizes.{Sized, effect-sized, fresh-sized}
+use Rattle.machine.proofs.StepLaws.{testsOf, step-cases}
+use Rattle.atomicity.specs.LogSum.{sum, freedBy, appendedBy, liveIn, LogSum}
+use Rattle.atomicity.proofs.HistoryRuns.{kindNumber, kind-number, thread-in-range}
+use Rattle.atomicity.proofs.ListCases.{set-cases, replicate-cases}
+use Rattle.atomicity.proofs.WorldPrune.{prune-logs}
+
+-- one element changed: the old one's number goes, the new one's comes
+sum-set : {A : Type 0} (number : A → ℕ) (list : List A) (place : ℕ) (value default : A) → place < length list → sum (map number (set list place value)) + number (getD list place default) ≡ sum (map number list) + number value
+unfolding sum
+sum-set number [] place value default inRange = absurd (omega arith)
+sum-set number (first ∷ list) zero value default inRange = omega arith
+sum-set number (first ∷ list) (suc place) value default inRange =
+    let rest = sum-set number list place value default (omega arith) in
+    omega arith
+
+-- of so many entries at most as many go on a region
+goes-most : (log : Log) (index count : ℕ) → goesOn log index count ≤ count
+unfolding goesOn
+goes-most log index zero = omega arith
+goes-most log index (suc count) =
+    by-tests (isAcquire (liveEvent log index)) (isRelease (liveEvent log index)) (goes-most log (suc index) count)
+  where
+    by-tests : (acquires releases : Bool) {later : ℕ} → later ≤ count → cond acquires 0 (cond releases 1 (suc later)) ≤ suc count
+    by-tests true releases most = omega arith
+    by-tests false true most = omega arith
+    by-tests false false most = omega arith
+
+-- PRUNE frees live entries only, whatever the log holds
+oldest-most : (log : Log) → oldestRegion log ≤ liveCount log
+unfolding oldestRegion
+oldest-most log = by-tests (eqb (liveCount log) 0) refl (isRelease (liveEvent log 0)) (goes-most log 1 (liveCount log - 1))
+  where
+    by-tests : (isNone : Bool) → eqb (liveCount log) 0 ≡ isNone → (releases : Bool) {later : ℕ} → later ≤ liveCount log - 1 → cond isNone 0 (cond releases 1 (suc later)) ≤ liveCount log
+    by-tests true told releases most = omega arith
+    by-tests false told true most = omega (arith, eqb-false (liveCount log) 0 told)
+    by-tests false told false most = omega (arith, eqb-false (liveCount log) 0 told)
+
+-- no head is past the next LSN, so that a difference of the two counts the live entries
+record Headed (machine : Machine) : Type 0 where
+  sized : Sized machine
+  headNext : (thread : ℕ) → logOf machine thread .head .0 ≤ logOf machine thread .tail .next .0
+
+-- how many entries a step of this kind with this answer frees
+abbrev freed : ℕ → Answer → ℕ
+freed kind answer = cond (eqb kind 10) (valueOf answer) 0
+
+-- how many it appends
+abbrev appended : ℕ → Answer → ℕ
+appended kind answer = cond (isAccepted answer && (eqb kind 2 || eqb kind 4 || eqb kind 5)) 1 0
+
+-- what a step of this kind leads to: what it freed and what is live now is what it appended and what was live
+record Balanced (machine : Machine) (kind : ℕ) (stepped : Stepped) : Type 0 where
+  headed : Headed (stepped .machine)
+  balance : freed kind (stepped .answer) + liveIn (stepped .machine) ≡ appended kind (stepped .answer) + liveIn machine
+
+module _ (machine : Machine) (headed : Headed machine) (kind : ℕ) (stepped : Stepped) (sized : Sized (stepped .machine)) where
+  -- no log changes
+  balanced-same : stepped .machine .logs ≡ machine .logs → freed kind (stepped .answer) ≡ appended kind (stepped .answer) → Balanced machine kind stepped
+  balanced-same sameLogs sameCount = record {
+    headed = record { sized = sized; headNext = λ thread. rw sameLogs (headed .headNext thread) };
+    balance = rw (sameLogs, sameCount);
+  }
+
+  -- one log changes
+  balanced-log : (thread : ℕ) (log : Log) → thread < threadCount → stepped .machine .logs ≡ set (machine .logs) thread log → log .head .0 ≤ log .tail .next .0 → freed kind (stepped .answer) + liveCount log ≡ appended kind (stepped .answer) + liveCount (logOf machine thread) → Balanced machine kind stepped
+  balanced-log thread log inRange isSet headNext balance =
+      let inLogs : thread < length (machine .logs) = rw (headed .sized .logs) inRange in
+      record {
+        headed = record {
+          sized = sized;
+          headNext = rw isSet (set-cases (machine .logs) thread log noLog inLogs (λ other log. log .head .0 ≤ log .tail .next .0) headNext (λ other differs. headed .headNext other));
+        };
+        balance = rw isSet (omega (arith, sum-set liveCount (machine .logs) thread log noLog inLogs));
+      }
+
+-- every effect keeps the balance
+effect-balanced : (machine : Machine) → Headed machine → (kind : Kind) (thread place value : ℕ) → AllFail (testsOf machine kind thread place value) → Balanced machine (kindNumber kind) (effect machine kind thread place value)
+unfolding effect loadEffect logEffect storeEffect acquireEffect logReleaseEffect releaseEffect flushEffect flushLogEffect fenceEffect pruneEffect evictEffect evictLogEffect appendOf grownTail flushLogOf flushedTail endReleaseOf releasedTail fenceLogOf fencedTail evictSlotOf pruneOf
+effect-balanced machine headed kind thread place value fails =
+    by-kind
+    kind
+    (effect-sized machine (headed .sized) kind thread place value fails)
+    (thread-in-range machine kind thread place value fails)
+    (headed .headNext thread)
+  where
+    by-kind : (kind : Kind) → Sized (effect machine kind thread place value .machine) → thread < threadCount → logOf machine thread .head .0 ≤ logOf machine thread .tail .next .0 → Balanced machine (kindNumber kind) (effect machine kind thread place value)
+    by-kind LOAD sized inRange order = balanced-same machine headed 1 _ sized refl refl
+    by-kind LOG sized inRange order = balanced-log machine headed 2 _ sized thread (appendOf (logOf machine thread) _) inRange refl (omega arith) (omega arith)
+    by-kind STORE sized inRange order = balanced-same machine headed 3 _ sized refl refl
+    by-kind ACQUIRE sized inRange order = balanced-log machine headed 4 _ sized thread (appendOf (logOf machine thread) _) inRange refl (omega arith) (omega arith)
+    by-kind LOGREL sized inRange order = balanced-log machine headed 5 _ sized thread (appendOf (logOf machine thread) _) inRange refl (omega arith) (omega arith)
+    by-kind RELEASE sized inRange order = balanced-log machine headed 6 _ sized thread (endReleaseOf (logOf machine thread)) inRange refl order refl
+    by-kind FLUSH sized inRange order = balanced-same machine headed 7 _ sized refl refl
+    by-kind FLUSHLOG sized inRange order = balanced-log machine headed 8 _ sized thread (flushLogOf (logOf machine thread)) inRange refl order refl
+    by-kind FENCE sized inRange order = balanced-log machine headed 9 _ sized thread (fenceLogOf (logOf machine thread)) inRange refl order refl
+    by-kind PRUNE sized inRange order =
+        let log = logOf machine thread in
+        let most = oldest-most log in
+        balanced-log machine headed 10 _ sized thread (pruneOf log (oldestRegion log)) inRange (prune-logs machine thread place value) (omega arith) (omega arith)
+    by-kind EVICT sized inRange order = balanced-same machine headed 11 _ sized refl refl
+    by-kind EVICTLOG sized inRange order = balanced-log machine headed 12 _ sized thread (evictSlotOf (logOf machine thread) place) inRange refl order refl
+
+-- beside a refusal stands 0
+refusal-value : (answer : Answer) → isAccepted answer ≡ false → valueOf answer ≡ 0
+refusal-value (Accepted given) isRefusal = absurd (true≢false isRefusal)
+refusal-value NoSuchKind isRefusal = refl
+refusal-value NoSuchThread isRefusal = refl
+refusal-value NoSuchPlace isRefusal = refl
+refusal-value UnusedField isRefusal = refl
+refusal-value LogFull isRefusal = refl
+refusal-value LsnsUsedUp isRefusal = refl
+refusal-value Releasing isRefusal = refl
+refusal-value Race isRefusal = refl
+refusal-value AlreadyLogged isRefusal = refl
+refusal-value NotLogged isRefusal = refl
+refusal-value EntryNotDurable isRefusal = refl
+refusal-value LockHeld isRefusal = refl
+refusal-value LockNotHeld isRefusal = refl
+refusal-value NotReleasing isRefusal = refl
+refusal-value NothingToPrune isRefusal = refl
+refusal-value EarlierReleaseNotPruned isRefusal = refl
+refusal-value CellNotDurable isRefusal = refl
+refusal-value NoLiveEntry isRefusal = refl
+refusal-value Unreadable isRefusal = refl
+refusal-value WrongLength isRefusal = refl
+refusal-value BadHead isRefusal = refl
+refusal-value BadEntry isRefusal = refl
+refusal-value Cyclic isRefusal = refl
+
+-- a refused step frees and appends nothing
+refusal-balance : (kind : ℕ) (answer : Answer) → isAccepted answer ≡ false → freed kind answer ≡ appended kind answer
+refusal-balance kind answer isRefusal = rw (isRefusal, refusal-value answer isRefusal) (by-test (eqb kind 10))
+  where
+    by-test : (isPrune : Bool) → cond {A = ℕ} isPrune 0 0 ≡ 0
+    by-test true = refl
+    by-test false = refl
+
+-- every step keeps the balance
+step-balanced : (machine : Machine) → Headed machine → (step : Step) → Balanced machine (step .kind) (stepWith machine step)
+step-balanced machine headed step =
+    step-cases
+    machine
+    (Balanced machine (step .kind))
+    (λ answer isRefusal. record { headed = headed; balance = rw (refusal-balance (step .kind) answer isRefusal) })
+    (step .kind)
+    (step .thread)
+    (step .place)
+    (step .value)
+    (λ kind isKind fails.
+    rw (kind-number (step .kind) kind isKind)
+    (effect-balanced machine headed kind (step .thread) (step .place) (step .value) fails))
+
+-- and so does every list of steps
+run-balanced : (machine : Machine) → Headed machine → (steps : List Step) → freedBy machine steps + liveIn (after machine steps) ≡ appendedBy machine steps + liveIn machine
+unfolding after freedBy appendedBy
+run-balanced machine headed [] = refl
+run-balanced machine headed (step ∷ steps) =
+    let now = step-balanced machine headed step in
+    let later = run-balanced (stepWith machine step .machine) (now .headed) steps in
+    omega arith
+
+fresh-headed : (cells : List ℕ) → Headed (freshMachine cells)
+unfolding freshMachine freshLog freshTail
+fresh-headed cells = record {
+  sized = fresh-sized cells;
+  headNext = λ thread. replicate-cases (λ log. log .head .0 ≤ log .tail .next .0) threadCount thread freshLog noLog (omega arith) (omega arith);
+}
+
+-- no entry is live at the start
+fresh-live : (cells : List ℕ) → liveIn (freshMachine cells) ≡ 0
+unfolding freshMachine freshLog freshTail sum
+fresh-live cells = refl
+
+-- from the start call, whether it accepts its words or not
+pub log-sum : LogSum
+unfolding startOf
+log-sum words steps = by-length (eqb (length words) cellCount)
+  where
+    from-fresh : (cells : List ℕ) → freedBy (freshMachine cells) steps + liveIn (after (freshMachine cells) steps) ≡ appendedBy (freshMachine cells) steps
+    from-fresh cells = omega (arith, run-balanced (freshMachine cells) (fresh-headed cells) steps, fresh-live cells)
+
+    startsAt : Bool → Machine
+    startsAt isLength = cond {A = Stepped} isLength (record { answer = Accepted 0; machine = freshMachine words }) (record { answer = WrongLength; machine = freshMachine (replicate cellCount 0) }) .machine
+
+    by-length : (isLength : Bool) → freedBy (startsAt isLength) steps + liveIn (after (startsAt isLength) steps) ≡ appendedBy (startsAt isLength) steps
+    by-length true = from-fresh words
+    by-length false = from-fresh (replicate cellCount 0)

@@ -1,0 +1,366 @@
+-- The law on refusal 16: a lock's counter is the number of its accepted LOGREL steps whose region the reference model has committed.
+use Prim.Native.Nat.{ℕ, zero, suc, _+_, _-_, _≤_, _<_}
+use native.Mathlib.Omega.{arith}
+use mathlib.Core.Path.{_≡_, refl, sym, ap, _∙_}
+use mathlib.Core.Bool.{Bool, true, false, cond, true≢false}
+use mathlib.Core.List.{List, []}
+use mathlib.Core.Logic.{inl, inr}
+use mathlib.Core.Option.{some}
+use lib.Dec.{eqb}
+use lib.ListN.{length, getD, set, replicate}
+use borrow.Author.Tests.{eq-eqb}
+use Rattle.answer.specs.declared.Answer.the-variants.{Accepted, WrongLength}
+use Rattle.answer.proofs.ListLaws.{getD-blank}
+use Rattle.answer.proofs.RefusalLaws.{AllFail}
+use Rattle.cache.specs.Cache.{cellCount}
+use Rattle.log.specs.Entries.{liveEvent, flushLogOf, endReleaseOf, fenceLogOf, evictSlotOf, pruneOf}
+use Rattle.log.specs.Regions.{isRelease, oldestRegion}
+use Rattle.log.specs.Ring.{flushedTail, fencedTail, releasedTail}
+use Rattle.log.specs.declared.entries.Event.{Event}
+use Rattle.log.specs.declared.entries.Event.the-variants.{Empty, Store, Acquire, Release}
+use Rattle.log.specs.declared.entries.Log.{Log}
+use Rattle.log.specs.declared.entries.SyncCount.{SyncCount}
+use Rattle.log.proofs.RegionLaws.{live-event}
+use Rattle.machine.specs.Clocks.{loadedOf, loggedCellOf}
+use Rattle.machine.specs.Effects.{loadEffect, logEffect, storeEffect, acquireEffect, logReleaseEffect, releaseEffect, flushEffect, flushLogEffect, fenceEffect, pruneEffect, evictEffect, evictLogEffect, countPruned, effect}
+use Rattle.machine.specs.Holds.{noLock, lockOf, withLog, freshMachine, startOf}
+use Rattle.machine.specs.Kinds.{Kind, LOAD, LOG, STORE, ACQUIRE, LOGREL, RELEASE, FLUSH, FLUSHLOG, FENCE, PRUNE, EVICT, EVICTLOG}
+use Rattle.machine.specs.declared.Lock.{Lock as LockState}
+use Rattle.machine.specs.declared.Machine.{Machine}
+use Rattle.machine.specs.declared.Stepped.{Stepped}
+use Rattle.machine.proofs.Asked.{acquire-asked, log-release-asked, release-asked, flush-log-asked, fence-asked, evict-log-asked, prune-asked}
+use Rattle.machine.proofs.StepLaws.{testsOf}
+use Rattle.reference.specs.Reference.{joins, isCommittedAt}
+use Rattle.atomicity.specs.History.{Fed, stepAt, bookBefore, startMachine, startCells, historyAfter}
+use Rattle.atomicity.specs.Races.{endsCommitted, countCommitted, PrunedLaw}
+use Rattle.atomicity.proofs.Logged.{Keeps}
+use Rattle.atomicity.proofs.Cells.{Version}
+use Rattle.atomicity.proofs.Follows.{Follows}
+use Rattle.atomicity.proofs.HistoryRuns.{kindNumber, tookStep, run-keeps}
+use Rattle.atomicity.proofs.Places.{thenFed, madeBy, step-new}
+use Rattle.atomicity.proofs.PrunedCounts.{countBelow, prunedTest, Counted, counted-same, counted-longer, PrunedOne, counted-prune}
+use Rattle.atomicity.proofs.Regions.{joinedPlace, joins-release}
+use Rattle.atomicity.proofs.ReleaseSteps.{LogsRelease, releases-agree, ReleaseSteps, NewSteps, steps-then, no-entry, other-entry, new-release}
+use Rattle.atomicity.proofs.StepsFollow.{effect-follows, refused-follows}
+use Rattle.atomicity.proofs.Times.{Formed, aRelease}
+use Rattle.atomicity.proofs.Views.{logAt, same-view}
+use Rattle.atomicity.proofs.Whole.{Whole, bookOf}
+use Rattle.atomicity.proofs.WholeRuns.{start-whole, after-whole}
+use Rattle.atomicity.proofs.World.{Ghost, World, entriesOf}
+use Rattle.atomicity.proofs.WorldQuiet.{EntriesStay, log-stays, logs-stay, world-refused, world-load, world-flush, world-evict, world-flush-log, world-fence, world-evict-log, storedVersions, world-store}
+use Rattle.atomicity.proofs.WorldAppends.{by-lock, appends, last-new, acquireEntry, releaseEntry, storeEntry, ghostThen, world-acquire, world-log-release, log-appends, loggedVersions, world-log}
+use Rattle.atomicity.proofs.WorldRelease.{world-release}
+use Rattle.atomicity.proofs.WorldPrune.{prune-regions, prune-logs, world-prune}
+
+-- each thread's head, and each lock's counter
+abbrev headsOf : Machine → ℕ → ℕ
+headsOf machine thread = logAt (machine .logs) thread .head .0
+
+abbrev prunedOf : Machine → ℕ → ℕ
+prunedOf machine lock = lockOf machine lock .pruned .0
+
+-- an accepted LOGREL's region is committed just when its entry is below its thread's head
+committed-test : {start : List ℕ} {machine : Machine} {history : List Fed} → Whole start machine history → (lock place : ℕ) → endsCommitted start history lock place ≡ prunedTest (headsOf machine) history lock place
+unfolding endsCommitted
+committed-test {start} {machine} {history} whole lock place =
+    releases-agree (stepAt history place) lock _ _ (λ releases.
+    let thread = stepAt history place .thread in
+    let book = bookBefore start history place in
+    let joinedRegion : joins book (stepAt history place .kind) thread ≡ some (joinedPlace book thread) = ap (λ (kind : ℕ). joins book kind thread) (releases .isKind) ∙ joins-release book thread in
+    let found = whole .joined place (joinedPlace book thread) (record { isAccepted = releases .isAccepted; joinedRegion = joinedRegion }) in
+    rw joinedRegion (ap (isCommittedAt (bookOf start history .regions)) (sym (found .1)) ∙ whole .regions .committed (found .0)))
+
+count-committed : {start : List ℕ} {machine : Machine} {history : List Fed} → Whole start machine history → (lock count : ℕ) → countCommitted start history lock count ≡ countBelow (prunedTest (headsOf machine) history lock) count
+unfolding countCommitted countBelow
+count-committed whole lock zero = refl
+count-committed whole lock (suc count) = rw (committed-test whole lock count, count-committed whole lock count)
+
+-- what every step keeps: the world, which LOGREL made which RELEASE entry, and that the counters count those pruned
+record PrunesCount (start : List ℕ) (machine : Machine) (history : List Fed) : Type 0 where
+  ghost : Ghost
+  world : World start machine history ghost
+  follows : Follows machine history
+  steps : ReleaseSteps history (entriesOf machine ghost)
+  counted : Counted (headsOf machine) history (prunedOf machine)
+
+release-formed : {lock : ℕ} {count : SyncCount} → Formed (Release lock count) → lock < 8
+release-formed (aRelease inRange) = inRange
+
+module _ {start : List ℕ} {machine : Machine} {history : List Fed} (holds : PrunesCount start machine history) where
+  abbrev was : Ghost
+  was = holds .ghost
+
+  -- a step that moves no head and changes no counter
+  headless : (after : Machine) (fed : Fed) (next : Ghost) → World start after (thenFed history fed) next → Follows after (thenFed history fed) → NewSteps history fed (entriesOf machine was) (entriesOf after next) → ((thread : ℕ) → headsOf after thread ≡ headsOf machine thread) → ((lock : ℕ) → prunedOf after lock ≡ prunedOf machine lock) → ((lock : ℕ) → LogsRelease fed lock → headsOf machine (fed .thread) ≤ madeBy (thenFed history fed) (fed .thread) (suc (length history))) → PrunesCount start after (thenFed history fed)
+  headless after fed next world follows new heads pruned live = record {
+    ghost = next;
+    world = world;
+    follows = follows;
+    steps = steps-then new (holds .steps);
+    counted = counted-same heads pruned (counted-longer fed live (holds .counted));
+  }
+
+  -- and makes no entry
+  quiet : (after : Machine) (fed : Fed) (next : Ghost) → World start after (thenFed history fed) next → Follows after (thenFed history fed) → Keeps (entriesOf machine was) (entriesOf after next) (length history) → ((thread : ℕ) → headsOf after thread ≡ headsOf machine thread) → ((lock : ℕ) → prunedOf after lock ≡ prunedOf machine lock) → ((lock : ℕ) → LogsRelease fed lock → ⊥) → PrunesCount start after (thenFed history fed)
+  quiet after fed next world follows keeps heads pruned noLogrel =
+      headless after fed next world follows (no-entry keeps noLogrel) heads pruned (λ lock releases. absurd (noLogrel lock releases))
+
+  refused-counts : (fed : Fed) → fed .accepted ≡ false → PrunesCount start machine (thenFed history fed)
+  refused-counts fed isRefused =
+      quiet
+      machine
+      fed
+      was
+      (world-refused (holds .world) fed isRefused)
+      (refused-follows machine history (holds .follows) fed isRefused)
+      (same-view (entriesOf machine was) (length history))
+      (λ thread. refl)
+      (λ lock. refl)
+      (λ lock releases. true≢false (sym (releases .isAccepted) ∙ isRefused))
+
+  module _ (thread place value : ℕ) where
+    -- what each kind of step keeps
+    abbrev Kept : Kind → Type 0
+    Kept kind = AllFail (testsOf machine kind thread place value) → PrunesCount start (effect machine kind thread place value .machine) (thenFed history (tookStep kind thread place value))
+
+    quiet-kind : (kind : Kind) (versions : ℕ → List Version) → World start (effect machine kind thread place value .machine) (thenFed history (tookStep kind thread place value)) (record { event = was .event; time = was .time; versions = versions }) → EntriesStay machine (effect machine kind thread place value .machine) was (length history) → ((lock : ℕ) → prunedOf (effect machine kind thread place value .machine) lock ≡ prunedOf machine lock) → (kindNumber kind ≡ 5 → ⊥) → Kept kind
+    quiet-kind kind versions world stay pruned noLogrel fails =
+        quiet
+        (effect machine kind thread place value .machine)
+        (tookStep kind thread place value)
+        (record { event = was .event; time = was .time; versions = versions })
+        world
+        (effect-follows machine history (holds .follows) kind thread place value fails)
+        (stay .keeps)
+        (stay .headSame)
+        pruned
+        (λ lock releases. noLogrel (releases .isKind))
+
+    inLogs : thread < 4 → thread < length (machine .logs)
+    inLogs inRange = rw (holds .world .sized .logs) inRange
+
+    -- the logs and the locks stay as they are
+    load-counts : Kept LOAD
+    unfolding effect loadEffect loadedOf
+    load-counts fails = quiet-kind LOAD (was .versions) (world-load (holds .world) thread place value fails) (logs-stay machine _ was (length history) refl) (λ lock. refl) (λ isKind. omega arith) fails
+
+    store-counts : Kept STORE
+    unfolding effect storeEffect
+    store-counts fails = quiet-kind STORE (storedVersions (holds .world) thread place value .versions) (world-store (holds .world) thread place value fails) (logs-stay machine _ was (length history) refl) (λ lock. refl) (λ isKind. omega arith) fails
+
+    flush-counts : Kept FLUSH
+    unfolding effect flushEffect
+    flush-counts fails = quiet-kind FLUSH (was .versions) (world-flush (holds .world) thread place value fails) (logs-stay machine _ was (length history) refl) (λ lock. refl) (λ isKind. omega arith) fails
+
+    evict-counts : Kept EVICT
+    unfolding effect evictEffect
+    evict-counts fails = quiet-kind EVICT (was .versions) (world-evict (holds .world) thread place value fails) (logs-stay machine _ was (length history) refl) (λ lock. refl) (λ isKind. omega arith) fails
+
+    -- the thread's log changes, without an entry more
+    flush-log-counts : Kept FLUSHLOG
+    unfolding effect flushLogEffect flushLogOf flushedTail
+    flush-log-counts fails =
+        quiet-kind
+        FLUSHLOG
+        (was .versions)
+        (world-flush-log (holds .world) thread place value fails)
+        (log-stays machine _ was (length history) thread (flushLogOf (logAt (machine .logs) thread)) refl (inLogs (flush-log-asked machine thread place value fails)) refl refl (omega arith))
+        (λ lock. refl)
+        (λ isKind. omega arith)
+        fails
+
+    fence-counts : Kept FENCE
+    unfolding effect fenceEffect fenceLogOf fencedTail
+    fence-counts fails =
+        let inRange = fence-asked machine thread place value fails in
+        quiet-kind
+        FENCE
+        (was .versions)
+        (world-fence (holds .world) thread place value fails)
+        (log-stays machine _ was (length history) thread (fenceLogOf (logAt (machine .logs) thread)) refl (inLogs inRange) refl refl (holds .world .logs thread inRange .durableFlushed))
+        (λ lock. refl)
+        (λ isKind. omega arith)
+        fails
+
+    evict-log-counts : Kept EVICTLOG
+    unfolding effect evictLogEffect evictSlotOf
+    evict-log-counts fails =
+        quiet-kind
+        EVICTLOG
+        (was .versions)
+        (world-evict-log (holds .world) thread place value fails)
+        (log-stays machine _ was (length history) thread (evictSlotOf (logAt (machine .logs) thread) place) refl (inLogs (evict-log-asked machine thread place value fails .inThread)) refl refl (omega arith))
+        (λ lock. refl)
+        (λ isKind. omega arith)
+        fails
+
+    -- a lock in range with another holder or count, and the same counter of what is pruned
+    same-pruned : (state : LockState) → place < 8 → state .pruned .0 ≡ prunedOf machine place → (lock : ℕ) → getD (set (machine .locks) place state) lock noLock .pruned .0 ≡ prunedOf machine lock
+    same-pruned state inLock same = by-lock (λ other found. found .pruned .0 ≡ prunedOf machine other) (machine .locks) place state (rw (holds .world .sized .locks) inLock) same (λ other differs. refl)
+
+    release-counts : Kept RELEASE
+    unfolding effect releaseEffect endReleaseOf releasedTail
+    release-counts fails =
+        let asked = release-asked machine thread place value fails in
+        quiet-kind
+        RELEASE
+        (was .versions)
+        (world-release (holds .world) thread place value fails)
+        (log-stays machine _ was (length history) thread (endReleaseOf (logAt (machine .logs) thread)) refl (inLogs (asked .inThread)) refl refl (omega arith))
+        (same-pruned _ (asked .inLock) refl)
+        (λ isKind. omega arith)
+        fails
+
+    -- an entry more, of LOG, ACQUIRE or LOGREL
+    log-counts : Kept LOG
+    unfolding effect logEffect loggedCellOf
+    log-counts fails =
+        let appended = log-appends (holds .world) thread place value (holds .follows) fails in
+        headless
+        (effect machine LOG thread place value .machine)
+        (tookStep LOG thread place value)
+        (ghostThen (holds .world) thread place value (storeEntry (holds .world) thread place value) (loggedVersions (holds .world) thread place value))
+        (world-log (holds .world) thread place value (holds .follows) fails)
+        (effect-follows machine history (holds .follows) LOG thread place value fails)
+        (other-entry appended (λ lock releases. let isKind = releases .isKind in omega arith) refl)
+        (appended .headSame)
+        (λ lock. refl)
+        (λ lock releases. let isKind = releases .isKind in absurd (omega arith))
+
+    acquire-counts : Kept ACQUIRE
+    unfolding effect acquireEffect
+    acquire-counts fails =
+        let asked = acquire-asked machine thread place value fails in
+        let appended = appends (holds .world) thread (asked .inThread) (acquireEntry (holds .world) thread place value) (asked .room) in
+        headless
+        (effect machine ACQUIRE thread place value .machine)
+        (tookStep ACQUIRE thread place value)
+        (ghostThen (holds .world) thread place value (acquireEntry (holds .world) thread place value) (was .versions))
+        (world-acquire (holds .world) thread place value fails)
+        (effect-follows machine history (holds .follows) ACQUIRE thread place value fails)
+        (other-entry appended (λ lock releases. let isKind = releases .isKind in omega arith) refl)
+        (appended .headSame)
+        (same-pruned _ (asked .inLock) refl)
+        (λ lock releases. let isKind = releases .isKind in absurd (omega arith))
+
+    log-release-counts : Kept LOGREL
+    unfolding effect logReleaseEffect
+    log-release-counts fails =
+        let asked = log-release-asked machine thread place value fails in
+        let entry = releaseEntry (holds .world) thread place value in
+        let fed = tookStep LOGREL thread place value in
+        let appended = appends (holds .world) thread (asked .inThread) entry (asked .room) in
+        let isLast = last-new (holds .world) thread (asked .inThread) entry (asked .room) fed (rw (eq-eqb thread thread refl)) in
+        headless
+        (effect machine LOGREL thread place value .machine)
+        fed
+        (ghostThen (holds .world) thread place value entry (was .versions))
+        (world-log-release (holds .world) thread place value fails)
+        (effect-follows machine history (holds .follows) LOGREL thread place value fails)
+        (new-release appended (record { isAccepted = refl; isKind = refl; isLock = refl }) refl (rw (step-new history fed) isLast))
+        (appended .headSame)
+        (λ lock. refl)
+        (λ lock releases. rw isLast (holds .world .logs thread (asked .inThread) .headNext))
+
+    -- PRUNE counts one more RELEASE, of the lock of the region's last entry, if that is one
+    abbrev log : Log
+    log = logAt (machine .logs) thread
+
+    abbrev last : ℕ
+    last = log .head .0 + oldestRegion log - 1
+
+    pruned-one : (event : Event) → was .event thread last ≡ event → Formed event → (lock : ℕ) → PrunedOne (entriesOf machine was) thread last lock (prunedOf machine lock) (prunedOf (countPruned (withLog machine thread (pruneOf log (oldestRegion log))) event) lock)
+    pruned-one Empty says formed lock = inr ((λ count ends. true≢false (sym (ap isRelease ends) ∙ ap isRelease says)), refl)
+    pruned-one (Store cell old) says formed lock = inr ((λ count ends. true≢false (sym (ap isRelease ends) ∙ ap isRelease says)), refl)
+    pruned-one (Acquire other count) says formed lock = inr ((λ larger ends. true≢false (sym (ap isRelease ends) ∙ ap isRelease says)), refl)
+    pruned-one (Release other count) says formed lock =
+        by-lock
+        (λ found state. PrunedOne (entriesOf machine was) thread last found (prunedOf machine found) (state .pruned .0))
+        (machine .locks)
+        other
+        _
+        (rw (holds .world .sized .locks) (release-formed formed))
+        (inl (count, says, omega arith))
+        (λ found differs. inr ((λ larger ends. differs (cc)), refl))
+        lock
+
+    prune-one : AllFail (testsOf machine PRUNE thread place value) → (lock : ℕ) → PrunedOne (entriesOf machine was) thread last lock (prunedOf machine lock) (prunedOf (effect machine PRUNE thread place value .machine) lock)
+    unfolding effect pruneEffect
+    prune-one fails =
+        let asked = prune-asked machine thread place value fails in
+        let region = prune-regions (holds .world) thread asked in
+        let positive = region .headPositive in
+        let some-entry = region .notEmpty in
+        let within = region .within in
+        let says = live-event log (was .event thread) (holds .world .logs thread (asked .inThread)) (oldestRegion log - 1) last (omega arith) (omega arith) in
+        let formed = holds .world .times .formed thread last (record { positive = omega arith; below = omega arith }) in
+        pruned-one (liveEvent log (oldestRegion log - 1)) (sym says) (rw (← says) at formed)
+
+    prune-counts : Kept PRUNE
+    prune-counts fails =
+        let asked = prune-asked machine thread place value fails in
+        let fed = tookStep PRUNE thread place value in
+        let region = prune-regions (holds .world) thread asked in
+        let noLogrel : (lock : ℕ) → LogsRelease fed lock → ⊥ = λ lock releases. let isKind = releases .isKind in omega arith in
+        record {
+          ghost = was;
+          world = world-prune (holds .world) thread place value fails;
+          follows = effect-follows machine history (holds .follows) PRUNE thread place value fails;
+          steps = rw (prune-logs machine thread place value) (steps-then (no-entry (region .keeps) noLogrel) (holds .steps));
+          counted =
+              counted-same
+              (λ other. ap (λ (logs : List Log). logAt logs other .head .0) (prune-logs machine thread place value))
+              (λ lock. refl)
+              (counted-longer fed (λ lock releases. absurd (noLogrel lock releases)) (counted-prune region (holds .steps) (prune-one fails) (holds .counted)));
+        }
+
+  effect-counts : (kind : Kind) (thread place value : ℕ) → AllFail (testsOf machine kind thread place value) → PrunesCount start (effect machine kind thread place value .machine) (thenFed history (tookStep kind thread place value))
+  effect-counts LOAD = load-counts
+  effect-counts LOG = log-counts
+  effect-counts STORE = store-counts
+  effect-counts ACQUIRE = acquire-counts
+  effect-counts LOGREL = log-release-counts
+  effect-counts RELEASE = release-counts
+  effect-counts FLUSH = flush-counts
+  effect-counts FLUSHLOG = flush-log-counts
+  effect-counts FENCE = fence-counts
+  effect-counts PRUNE = prune-counts
+  effect-counts EVICT = evict-counts
+  effect-counts EVICTLOG = evict-log-counts
+
+-- at the start no step was taken, no entry made, and each counter is 0
+start-pruned : (words : List ℕ) (lock : ℕ) → prunedOf (startMachine words) lock ≡ 0
+unfolding startOf freshMachine
+start-pruned words lock = by-length (eqb (length words) cellCount)
+  where
+    by-length : (isLength : Bool) → prunedOf (cond {A = Stepped} isLength (record { answer = Accepted 0; machine = freshMachine words }) (record { answer = WrongLength; machine = freshMachine (replicate cellCount 0) }) .machine) lock ≡ 0
+    by-length true = ap (λ (state : LockState). state .pruned .0) (getD-blank 8 lock noLock)
+    by-length false = ap (λ (state : LockState). state .pruned .0) (getD-blank 8 lock noLock)
+
+start-counts : (words : List ℕ) → PrunesCount (startCells words) (startMachine words) []
+unfolding countBelow
+start-counts words =
+    let whole = start-whole words in
+    record {
+      ghost = whole .ghost;
+      world = whole .world;
+      follows = whole .follows;
+      steps = record {
+        stands = λ releases. absurd (true≢false (sym (releases .isAccepted)));
+        made = λ {thread} {number} is. let past = whole .world .times .past thread number (is .made) in absurd (omega arith);
+      };
+      counted = record { number = start-pruned words };
+    }
+
+pub pruned-law : PrunedLaw
+pruned-law words steps lock inRange =
+    let holds =
+    run-keeps
+    (PrunesCount (startCells words))
+    (λ machine history holds next isRefused. refused-counts holds next isRefused)
+    (λ machine history holds kind thread place value fails. effect-counts holds kind thread place value fails)
+    (startMachine words)
+    []
+    (start-counts words)
+    steps in
+    holds .counted .number lock ∙ sym (count-committed (after-whole words steps) lock (length (historyAfter words steps)))
