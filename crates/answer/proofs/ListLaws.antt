@@ -11,58 +11,12 @@ use lib.ListN.{length, getD, set, take, drop, replicate, length-set, length-appe
 use lib.Seq.{ext-getD, getD-set-same, getD-set-other}
 use lib.Dec.{eqb, ltb, leb·suc-suc}
 use borrow.Author.Tests.{lt-ltb, le-ltb, eq-eqb, ne-eqb}
-use Rattle.answer.specs.Lists.{tab, someBelow, setFrom, mixFrom}
+use Rattle.answer.specs.Lists.{tab, setFrom, mixFrom}
 
 -- a choice between a thing and itself
 pub cond-same : {A : Type 0} (test : Bool) (a : A) → cond test a a ≡ a
 cond-same true a = refl
 cond-same false a = refl
-
--- ---- someBelow
-
--- a number below n of which the test holds is found
-pub someBelow-holds : (n : ℕ) (test : ℕ → Bool) (i : ℕ) → i < n → test i ≡ true → someBelow n test ≡ true
-unfolding someBelow
-someBelow-holds zero test i below holds = absurd (not-suc-le-zero below)
-someBelow-holds (suc n) test i below holds =
-    by-cases (ℕ-discrete i n) (λ e. rw (sym (ap test e) ∙ holds)) (λ ne. later (test n) (someBelow-holds n test i (omega arith) holds))
-  where
-    later : (a : Bool) {b : Bool} → b ≡ true → (a || b) ≡ true
-    later true e = refl
-    later false e = e
-
--- where it holds of none, none is found
-pub someBelow-none : (n : ℕ) (test : ℕ → Bool) → ((i : ℕ) → i < n → test i ≡ false) → someBelow n test ≡ false
-unfolding someBelow
-someBelow-none zero test none = refl
-someBelow-none (suc n) test none = rw (none n (omega arith)) (someBelow-none n test (λ i below. none i (omega arith)))
-
--- where none is found, it holds of none
-pub someBelow-fails : (n : ℕ) (test : ℕ → Bool) → someBelow n test ≡ false → (i : ℕ) → i < n → test i ≡ false
-someBelow-fails n test fails i below = go (test i) refl
-  where
-    go : (holds : Bool) → test i ≡ holds → holds ≡ false
-    go false e = refl
-    go true e = sym (someBelow-holds n test i below e) ∙ fails
-
--- where one is found, it holds of that one
-pub someBelow-found : (n : ℕ) (test : ℕ → Bool) → someBelow n test ≡ true → (i : ℕ) × (i < n) × (test i ≡ true)
-unfolding someBelow
-someBelow-found zero test found = absurd (false≢true found)
-someBelow-found (suc n) test found = go (test n) refl found (someBelow-found n test)
-  where
-    go : (holds : Bool) → test n ≡ holds → (holds || someBelow n test) ≡ true → (someBelow n test ≡ true → (i : ℕ) × (i < n) × (test i ≡ true)) → (i : ℕ) × (i < suc n) × (test i ≡ true)
-    go true e found below = (n, omega arith, e)
-    go false e found below =
-        let it = below found in
-        (it .0, omega (arith, it .1), it .2)
-
--- the same test at each place finds the same
-pub someBelow-same : (n : ℕ) (test other : ℕ → Bool) → ((i : ℕ) → i < n → test i ≡ other i) → someBelow n test ≡ someBelow n other
-unfolding someBelow
-someBelow-same zero test other same = refl
-someBelow-same (suc n) test other same =
-    ap₂ _||_ (same n (omega arith)) (someBelow-same n test other (λ i below. same i (omega arith)))
 
 module _ {A : Type 0} where
   -- ---- tab

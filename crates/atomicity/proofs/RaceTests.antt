@@ -9,6 +9,7 @@ use native.Mathlib.Omega.{arith}
 use lib.ListN.{length, getD}
 use borrow.Author.Tests.{leb-true, leb-false, not-true, not-false}
 use Rattle.answer.specs.Lists.{someBelow}
+use Rattle.answer.proofs.BelowLaws.{someBelow-none, someBelow-found}
 use Rattle.cache.specs.Cache.{cellCount}
 use Rattle.machine.specs.Clocks.{clockAt, accessPlace, loadRaces, logRaces}
 use Rattle.machine.specs.Holds.{threadCount, clockOf}
@@ -22,25 +23,6 @@ use Rattle.atomicity.proofs.Knowledge.{KnowsNext}
 use Rattle.atomicity.proofs.ClockInvariant.{clock-knows-next}
 use Rattle.atomicity.proofs.AccessInvariant.{Logged, LastLog, Took, LogOf}
 use Rattle.atomicity.proofs.Follows.{Follows}
-
--- the test fails of every number below the bound, or holds of one
-none-below : (bound : ℕ) (test : ℕ → Bool) → someBelow bound test ≡ false → (number : ℕ) → number < bound → test number ≡ false
-unfolding someBelow
-none-below zero test none number below = absurd (omega arith)
-none-below (suc bound) test none number below = by-last (test bound) refl none (λ rest. none-below bound test rest number)
-  where
-    by-last : (last : Bool) → test bound ≡ last → (last || someBelow bound test) ≡ false → (someBelow bound test ≡ false → number < bound → test number ≡ false) → test number ≡ false
-    by-last true holds none earlier = absurd (true≢false none)
-    by-last false fails none earlier = by-cases (ℕ-discrete number bound) (λ same. rw same fails) (λ other. earlier none (omega arith))
-
-one-below : (bound : ℕ) (test : ℕ → Bool) → someBelow bound test ≡ true → (number : ℕ) × (number < bound) × (test number ≡ true)
-unfolding someBelow
-one-below zero test some = absurd (false≢true some)
-one-below (suc bound) test some = by-last (test bound) refl some (one-below bound test)
-  where
-    by-last : (last : Bool) → test bound ≡ last → (last || someBelow bound test) ≡ true → (someBelow bound test ≡ true → (number : ℕ) × (number < bound) × (test number ≡ true)) → (number : ℕ) × (number < suc bound) × (test number ≡ true)
-    by-last true holds some earlier = (bound, omega arith, holds)
-    by-last false fails some earlier = let found = earlier some in (found .0, omega (arith, found .1), found .2)
 
 module _ (machine : Machine) (history : List Fed) (follows : Follows machine history) (next : Fed) (isAccepted : next .accepted ≡ true) (isThread : next .thread < threadCount) (notAcquire : next .kind ≢ 4) where
   knows : KnowsNext history next (clockAt (clockOf machine (next .thread)))
@@ -91,7 +73,7 @@ module _ (machine : Machine) (history : List Fed) (follows : Follows machine his
         thread = stepAt history place .thread
 
         counted : getD (machine .accesses .stamps) (accessPlace cell thread) 0 ≤ clockAt (clockOf machine (next .thread)) thread
-        counted = leb-true _ _ (not-false _ (none-below threadCount _ fails thread (follows .inRange place wasAccepted)))
+        counted = leb-true _ _ (not-false _ (someBelow-none threadCount _ fails thread (follows .inRange place wasAccepted)))
 
         stamped : epochAt history place ≤ getD (machine .accesses .stamps) (accessPlace cell thread) 0
         stamped = follows .accessed .stamps cell thread isCell (follows .inRange place wasAccepted) .atMost place (record { isAccepted = wasAccepted; isSort = (isAccess, isPlace, refl) })
@@ -100,9 +82,9 @@ module _ (machine : Machine) (history : List Fed) (follows : Follows machine his
     pub log-race : logRaces machine (next .thread) cell ≡ true → (place : ℕ) × Took history (λ step. IsAccess (step .kind) × (step .place ≡ cell)) place × (HappensBefore (andThen history next) place (length history) → ⊥)
     unfolding logRaces
     log-race holds =
-        let found = one-below threadCount _ holds in
-        let uncounted : clockAt (clockOf machine (next .thread)) (found .0) < getD (machine .accesses .stamps) (accessPlace cell (found .0)) 0 = leb-false _ _ (not-true _ (found .2)) in
-        let last = follows .accessed .stamps cell (found .0) isCell (found .1) .latest (λ isNone. omega arith) in (
+        let found = someBelow-found threadCount _ holds in
+        let uncounted : clockAt (clockOf machine (next .thread)) (found .number) < getD (machine .accesses .stamps) (accessPlace cell (found .number)) 0 = leb-false _ _ (not-true _ (found .holds)) in
+        let last = follows .accessed .stamps cell (found .number) isCell (found .below) .latest (λ isNone. omega arith) in (
           last .0,
           record { isAccepted = last .1 .isAccepted; isSort = (last .1 .isSort .0, last .1 .isSort .1) },
           λ before. omega (arith, last .2, ap (clockAt (clockOf machine (next .thread))) (last .1 .isSort .2), knows .counts (last .0) (last .1 .isAccepted) before),

@@ -11,6 +11,7 @@ use lib.Dec.{eqb}
 use lib.ListN.{length, getD, set, length-set}
 use lib.Seq.{sets, length-sets, getD-set-same, getD-set-other}
 use Rattle.answer.specs.Lists.{someBelow}
+use Rattle.answer.proofs.BelowLaws.{someBelow-found}
 use Rattle.log.specs.Ring.{slotCount, lsn, slotOf}
 use Rattle.log.specs.Entries.{entryWords, kindOf, placeOf, valueOf, wordsOf, untouched, liveCount, isLiveSlot, persistSlot}
 use Rattle.log.specs.Stretch.{stretchWords, wordAt, kindAt, placeAt, valueAt, holds}
@@ -29,22 +30,12 @@ slot-below number = omega arith
 pub same-slot : (head one other : ℕ) → head ≤ one → one < head + slotCount → head ≤ other → other < head + slotCount → slotOf one ≡ slotOf other → one ≡ other
 same-slot head one other oneFrom oneTo otherFrom otherTo same = omega arith
 
--- what holds of some number below a count holds of a number that can be named
-pub some-below : (count : ℕ) (test : ℕ → Bool) → someBelow count test ≡ true → (number : ℕ) × (number < count) × (test number ≡ true)
-unfolding someBelow
-some-below zero test some = absurd (never (cc))
-some-below (suc count) test some = by-test (test count) refl some (some-below count test)
-  where
-    by-test : (holds : Bool) → test count ≡ holds → (holds || someBelow count test) ≡ true → (someBelow count test ≡ true → (number : ℕ) × (number < count) × (test number ≡ true)) → (number : ℕ) × (number < suc count) × (test number ≡ true)
-    by-test true is some below = (count, omega arith, is)
-    by-test false is some below = let found = below some in (found .0, omega arith, found .2)
-
 -- some live entry sits in a slot that is live
 pub live-slot : (log : Log) (slot : ℕ) → isLiveSlot log slot ≡ true → (number : ℕ) × (log .head .0 ≤ number) × (number < log .tail .next .0) × (slotOf number ≡ slot)
 unfolding isLiveSlot
 live-slot log slot isLive =
-    let found = some-below (liveCount log) (λ index. eqb (slotOf (log .head .0 + index)) slot) isLive in
-    (log .head .0 + found .0, omega arith, omega arith, eqb-true _ _ (found .2))
+    let found = someBelow-found (liveCount log) (λ index. eqb (slotOf (log .head .0 + index)) slot) isLive in
+    (log .head .0 + found .number, omega arith, omega arith, eqb-true _ _ (found .holds))
 
 -- a run of stores leaves what stands elsewhere
 pub sets-other : {A : Type 0} (list : List A) (start : ℕ) (values : List A) (place : ℕ) (none : A) → ((index : ℕ) → index < length values → place ≢ start + index) → getD (sets list start values) place none ≡ getD list place none

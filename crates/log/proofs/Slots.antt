@@ -8,17 +8,12 @@ use native.Mathlib.Decide.{decLt, ℕ-discrete}
 use lib.Dec.{eqb, ltb}
 use borrow.Author.Tests.{lt-ltb, le-ltb, eq-eqb, ne-eqb}
 use Rattle.answer.specs.Lists.{someBelow}
+use Rattle.answer.proofs.BelowLaws.{none-someBelow}
 use Rattle.log.specs.Ring.{slotOf}
 
 or-true : (b : Bool) → (b || true) ≡ true
 or-true true = refl
 or-true false = refl
-
--- where a test holds of no number, it holds of none below n
-pub none-below : (test : ℕ → Bool) → ((i : ℕ) → test i ≡ false) → (n : ℕ) → someBelow n test ≡ false
-unfolding someBelow
-none-below test fails zero = refl
-none-below test fails (suc n) = rw (fails n, none-below test fails n)
 
 -- where `first` is the first number that a test holds of, it holds of one below n just where `first` is below n
 pub first-below : (test : ℕ → Bool) (first : ℕ) → ((i : ℕ) → i < first → test i ≡ false) → test first ≡ true → (n : ℕ)
@@ -35,7 +30,7 @@ first-below test first before here (suc n) =
 module _ (head slot : ℕ) where
   -- no LSN is in a slot over 63
   pub no-such-slot : 63 < slot → (n : ℕ) → someBelow n (λ i. eqb (slotOf (head + i)) slot) ≡ false
-  no-such-slot over = none-below _ (λ i. ne-eqb (slotOf (head + i)) slot (λ e. omega arith))
+  no-such-slot over n = none-someBelow n (λ i. eqb (slotOf (head + i)) slot) (λ i below. ne-eqb (slotOf (head + i)) slot (λ e. omega arith))
 
   -- of n LSNs from the head on, one is in the slot just where fewer than n come before the first that is there
   pub slot-of-run : slot < 64 → (n : ℕ) → someBelow n (λ i. eqb (slotOf (head + i)) slot) ≡ ltb ((slot + 64 - head % 64) % 64) n
