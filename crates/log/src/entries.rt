@@ -210,8 +210,8 @@ impl Log {
         ensures { λ r. ⌜ r ≡ flushLogOf self ⌝ }
     {
         let before = self.tail;
-        let tail = before.flushed_all();
-        self.tail = tail;
+        let flushed = before.flushed_all();
+        self.tail = flushed;
         self
     }
 
@@ -220,8 +220,8 @@ impl Log {
         ensures { λ r. ⌜ r ≡ endReleaseOf self ⌝ }
     {
         let before = self.tail;
-        let tail = before.released();
-        self.tail = tail;
+        let ended = before.released();
+        self.tail = ended;
         self
     }
 
@@ -271,8 +271,8 @@ impl Log {
             done += 1;
         }
         self.persisted = persisted;
-        let tail = before.fenced();
-        self.tail = tail;
+        let fenced = before.fenced();
+        self.tail = fenced;
         self
     }
 
