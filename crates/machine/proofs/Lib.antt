@@ -3,3 +3,4 @@ pub mod StepLaws
 pub mod Sizes
 pub mod Asked
 pub mod Counts
+pub mod Tested

@@ -23,7 +23,7 @@ input-refuses : (kind : Kind) (thread place value : ℕ) → AllRefuse (inputTes
 unfolding inputTests
 input-refuses kind thread place value = (refl, (refl, (refl, tt)))
 
-state-refuses : (machine : Machine) (kind : Kind) (thread place : ℕ) → AllRefuse (stateTests machine kind thread place)
+pub state-refuses : (machine : Machine) (kind : Kind) (thread place : ℕ) → AllRefuse (stateTests machine kind thread place)
 unfolding stateTests loadTests logTests storeTests acquireTests logReleaseTests releaseTests pruneTests roomTests evictSlotTests
 state-refuses machine LOAD thread place = (refl, tt)
 state-refuses machine LOG thread place = (refl, (refl, (refl, (refl, (refl, tt)))))

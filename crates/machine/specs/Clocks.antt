@@ -42,6 +42,10 @@ stampNow machine thread = clockAt (clockOf machine thread) thread
 abbrev pub accessPlace : ℕ → ℕ → ℕ
 accessPlace cell thread = cell * threadCount + thread
 
+-- the clock knows of the access with this stamp by this thread
+abbrev pub isKnown : Clock → ℕ → ℕ → Bool
+isKnown clock stamp thread = leb stamp (clockAt clock thread)
+
 -- the access with this stamp, by this other thread, happens before the next step of the thread
 abbrev pub isBefore : Machine → ℕ → ℕ → ℕ → Bool
 isBefore machine stamp other thread = leb stamp (clockAt (clockOf machine thread) other)
