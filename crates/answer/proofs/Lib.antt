@@ -2,3 +2,4 @@
 pub mod RefusalLaws
 pub mod BelowLaws
 pub mod ListLaws
+pub mod ListCases

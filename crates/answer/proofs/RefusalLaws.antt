@@ -1,9 +1,10 @@
 -- What follows for an outcome of tests in order: it is a refusal by one of them, or all of them failed and the effect happened.
-use mathlib.Core.Path.{_≡_, refl}
-use mathlib.Core.Bool.{Bool, true, false, cond}
+use mathlib.Core.Path.{_≡_, refl, sym, ap, _∙_}
+use mathlib.Core.Bool.{Bool, true, false, cond, true≢false}
 use mathlib.Core.List.{List, [], _∷_, _++_}
-use Rattle.answer.specs.Answer.{isAccepted}
-use Rattle.answer.specs.Refusals.{Test, _⇒_, unless}
+use lib.Dec.{eqb}
+use Rattle.answer.specs.Answer.{numberOf, isAccepted}
+use Rattle.answer.specs.Refusals.{Test, _⇒_, unless, firstRefusal}
 use Rattle.answer.specs.declared.Answer.{Answer}
 
 -- every test failed
@@ -35,3 +36,26 @@ unless-cases Q refuse [] outcome refusals onRefusal onEffect = onEffect tt
 unless-cases Q refuse ((true ⇒ answer) ∷ tests) outcome refusals onRefusal onEffect = onRefusal answer (refusals .0)
 unless-cases Q refuse ((false ⇒ answer) ∷ tests) outcome refusals onRefusal onEffect =
     unless-cases Q refuse tests outcome (refusals .1) onRefusal (λ fails. onEffect (refl, fails))
+
+-- Code that asks the first tests, then the others: what it may say once it has the answer to the first ones.
+module _ {A : Type 0} (refuse : Answer → A) (outcome : A) (more : List Test) where
+  -- one of them holds, so the whole is refused with the same answer
+  pub stops : (tests : List Test) → (numberOf (firstRefusal tests) ≡ 0 → ⊥) → unless refuse (tests ++ more) outcome ≡ refuse (firstRefusal tests)
+  unfolding unless firstRefusal
+  stops [] isRefused = absurd (isRefused refl)
+  stops ((true ⇒ answer) ∷ tests) isRefused = refl
+  stops ((false ⇒ answer) ∷ tests) isRefused = stops tests isRefused
+
+  -- none of them holds, so the others decide
+  pub goes-on : (tests : List Test) → AllRefuse tests → numberOf (firstRefusal tests) ≡ 0 → unless refuse (tests ++ more) outcome ≡ unless refuse more outcome
+  unfolding unless firstRefusal
+  goes-on [] refusals isAccepted = refl
+  goes-on ((true ⇒ answer) ∷ tests) refusals isAccepted = absurd (true≢false (sym (ap (λ number. eqb number 0) isAccepted) ∙ refusals .0))
+  goes-on ((false ⇒ answer) ∷ tests) refusals isAccepted = goes-on tests (refusals .1) isAccepted
+
+-- none of the tests holds where the first refusal is none
+pub none-holds : (tests : List Test) → AllRefuse tests → numberOf (firstRefusal tests) ≡ 0 → AllFail tests
+unfolding unless firstRefusal
+none-holds [] refusals isAccepted = tt
+none-holds ((true ⇒ answer) ∷ tests) refusals isAccepted = absurd (true≢false (sym (ap (λ number. eqb number 0) isAccepted) ∙ refusals .0))
+none-holds ((false ⇒ answer) ∷ tests) refusals isAccepted = (refl, none-holds tests (refusals .1) isAccepted)

@@ -3,6 +3,7 @@ use Prim.Native.Nat.{ℕ}
 use mathlib.Core.Bool.{Bool, cond}
 use mathlib.Core.List.{List, [], _∷_}
 use Rattle.answer.specs.declared.Answer.{Answer}
+use Rattle.answer.specs.declared.Answer.the-variants.{Accepted}
 
 infix 20 _⇒_
 -- a test with the refusal that it gives
@@ -13,6 +14,10 @@ pub data Test : Type 0 where
 unfoldable pub unless : {A : Type 0} → (Answer → A) → List Test → A → A
 unless refuse [] outcome = outcome
 unless refuse ((holds ⇒ answer) ∷ tests) outcome = cond holds (refuse answer) (unless refuse tests outcome)
+
+-- the refusal of the first test that holds, and acceptance where none does
+unfoldable pub firstRefusal : List Test → Answer
+firstRefusal tests = unless (λ answer. answer) tests (Accepted 0)
 
 -- what a function over a lent buffer leaves: its answer, and the words of the buffer
 pub record Outcome : Type 0 where

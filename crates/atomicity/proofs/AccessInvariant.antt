@@ -17,7 +17,7 @@ use Rattle.atomicity.specs.HappensBefore.{HappensBefore}
 use Rattle.atomicity.specs.Races.{IsAccess}
 use Rattle.atomicity.proofs.Ordered.{andThen, old-or-next, step-stays, step-next, accepted-inside, before-stays}
 use Rattle.atomicity.proofs.Epochs.{releases, epochAt, epoch-stays, epoch-next}
-use Rattle.atomicity.proofs.ListCases.{set-cases}
+use Rattle.answer.proofs.ListCases.{set-cases}
 
 -- an accepted step of this sort stands at the place
 pub record Took (history : List Fed) (Sort : Fed → Type 0) (place : ℕ) : Type 0 where

@@ -11,8 +11,8 @@ use mathlib.Core.Logic.{_⊎_, inl, inr, ⊎-elim, by-cases}
 use lib.Dec.{ltb}
 use borrow.Author.Tests.{lt-ltb, le-ltb}
 use Rattle.log.specs.Regions.{isAcquire, isRelease}
-use Rattle.log.specs.declared.entries.Event.{Event}
-use Rattle.log.specs.declared.entries.Event.the-variants.{Empty, Store, Acquire, Release}
+use Rattle.log.specs.declared.Event.{Event}
+use Rattle.log.specs.declared.Event.the-variants.{Empty, Store, Acquire, Release}
 use Rattle.atomicity.proofs.Logged.{Entries, Made, Is, IsReleaseOf, IsAcquireOf, Grows, Keeps, Appends, still-is, was, kept-is, made-cases, new-is, is-cases}
 use Rattle.atomicity.proofs.Leads.{Leads, inThread, byLock, through, leads-grow, leads-on, ReleasesFrom}
 

@@ -15,8 +15,8 @@ use Rattle.atomicity.specs.HappensBefore.{HappensBefore}
 use Rattle.atomicity.proofs.Ordered.{andThen, StepOf, ReleaseOf, Reaches, next-of-thread}
 use Rattle.atomicity.proofs.Epochs.{releases, releases-grow, releases-refused, releases-kind, releases-thread, releases-more}
 use Rattle.atomicity.proofs.Knowledge.{Knows, KnowsNext, knows-refused, knows-other, knows-next, next-known, next-acquire-known, next-raised}
-use Rattle.atomicity.proofs.ListCases.{set-cases}
-use Rattle.atomicity.proofs.ClockLaws.{clockAt-join, clockAt-raised-other, clockAt-raised-own, clockAt-none, start-raised}
+use Rattle.answer.proofs.ListCases.{set-cases}
+use Rattle.machine.proofs.ClockLaws.{clockAt-join, clockAt-raised-other, clockAt-raised-own, clockAt-none, start-raised}
 
 -- a clock of a list of clocks, as its numbers
 abbrev pub numbersOf : List Clock → ℕ → ℕ → ℕ

@@ -39,7 +39,7 @@ closed-regions {start} {machine} {history} whole earlier later before isCommitte
     let pruned = leads-pruned (whole .world .prunes) leads (ltb-true number head isPruned) in
     sym (ap (isCommittedAt (bookOf start history .regions)) (first .1)) ∙ (whole .regions .committed (first .0) ∙ lt-ltb _ _ pruned)
 
-cut-recovers : (words : List ℕ) (steps : List Step) (buffer : List ℕ) → length buffer ≡ 128 → Recovers words steps buffer
+pub cut-recovers : (words : List ℕ) (steps : List Step) (buffer : List ℕ) → length buffer ≡ 128 → Recovers words steps buffer
 cut-recovers words steps buffer isLength =
     let whole = after-whole words steps in
     let counted = after-counted words steps in

@@ -9,19 +9,19 @@ use native.Mathlib.Omega.{arith}
 use lib.ListN.{length, getD, set, replicate}
 use lib.Seq.{getD-set-same, getD-set-other, set-out}
 use borrow.Author.Tests.{eqb-true}
-use Rattle.log.specs.Ring.{isReleasingLock, freshTail}
+use Rattle.ring.specs.Ring.{isReleasingLock, freshTail}
 use Rattle.log.specs.Entries.{freshLog}
-use Rattle.log.specs.declared.entries.Log.{Log}
-use Rattle.log.specs.declared.ring.Releasing.{Releasing}
-use Rattle.log.specs.declared.ring.Releasing.the-variants.{Nothing, Lock as ReleasingLock}
+use Rattle.log.specs.declared.Log.{Log}
+use Rattle.ring.specs.declared.Releasing.{Releasing}
+use Rattle.ring.specs.declared.Releasing.the-variants.{Nothing, Lock as ReleasingLock}
 use Rattle.machine.specs.Clocks.{clockAt, joinOf, raisedOf}
 use Rattle.machine.specs.Holds.{threadCount, lockCount, noLog, noLock, noClock, isHeld, isHeldBy}
 use Rattle.machine.specs.declared.Clock.{Clock}
 use Rattle.machine.specs.declared.Holder.{Holder}
 use Rattle.machine.specs.declared.Holder.the-variants.{Nobody, Thread}
 use Rattle.machine.specs.declared.Lock.{Lock}
-use Rattle.atomicity.proofs.ListCases.{set-cases, replicate-cases}
-use Rattle.atomicity.proofs.ClockLaws.{clockAt-join, clockAt-raised-other, clockAt-raised-own}
+use Rattle.answer.proofs.ListCases.{set-cases, replicate-cases}
+use Rattle.machine.proofs.ClockLaws.{clockAt-join, clockAt-raised-other, clockAt-raised-own}
 use Rattle.atomicity.proofs.ClockInvariant.{numbersOf}
 
 -- the lock that a thread is releasing, and the holder of a lock

@@ -1,9 +1,7 @@
 -- Proofs of what specs/ claims.
 pub mod PointsHold
 pub mod Ordered
-pub mod ListCases
 pub mod Epochs
-pub mod ClockLaws
 pub mod Knowledge
 pub mod ClockInvariant
 pub mod AccessInvariant

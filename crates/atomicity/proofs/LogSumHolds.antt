@@ -14,8 +14,8 @@ use Rattle.answer.proofs.RefusalLaws.{AllFail}
 use Rattle.cache.specs.Cache.{cellCount}
 use Rattle.log.specs.Entries.{liveCount, liveEvent, freshLog, appendOf, flushLogOf, endReleaseOf, fenceLogOf, evictSlotOf, pruneOf}
 use Rattle.log.specs.Regions.{isAcquire, isRelease, goesOn, oldestRegion}
-use Rattle.log.specs.Ring.{freshTail, grownTail, flushedTail, fencedTail, releasedTail}
-use Rattle.log.specs.declared.entries.Log.{Log}
+use Rattle.ring.specs.Ring.{freshTail, grownTail, flushedTail, fencedTail, releasedTail}
+use Rattle.log.specs.declared.Log.{Log}
 use Rattle.machine.specs.Effects.{loadEffect, logEffect, storeEffect, acquireEffect, logReleaseEffect, releaseEffect, flushEffect, flushLogEffect, fenceEffect, pruneEffect, evictEffect, evictLogEffect, effect}
 use Rattle.machine.specs.Holds.{threadCount, noLog, logOf, freshMachine, startOf}
 use Rattle.machine.specs.Kinds.{Kind, LOAD, LOG, STORE, ACQUIRE, LOGREL, RELEASE, FLUSH, FLUSHLOG, FENCE, PRUNE, EVICT, EVICTLOG}
@@ -26,7 +26,7 @@ use Rattle.machine.proofs.Sizes.{Sized, effect-sized, fresh-sized}
 use Rattle.machine.proofs.StepLaws.{testsOf, step-cases}
 use Rattle.atomicity.specs.LogSum.{sum, freedBy, appendedBy, liveIn, LogSum}
 use Rattle.atomicity.proofs.HistoryRuns.{kindNumber, kind-number, thread-in-range}
-use Rattle.atomicity.proofs.ListCases.{set-cases, replicate-cases}
+use Rattle.answer.proofs.ListCases.{set-cases, replicate-cases}
 use Rattle.atomicity.proofs.WorldPrune.{prune-logs}
 
 -- one element changed: the old one's number goes, the new one's comes

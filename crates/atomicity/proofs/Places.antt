@@ -10,8 +10,8 @@ use mathlib.Core.Logic.{_⊎_, inl, inr, ⊎-elim, by-cases}
 use lib.ListN.{length, getD, length-append, List·getD-append, List·getD-eq-default}
 use lib.Seq.{getD-append-seam}
 use lib.Dec.{eqb}
-use Rattle.log.specs.declared.entries.Event.{Event}
-use Rattle.log.specs.declared.entries.Event.the-variants.{Store}
+use Rattle.log.specs.declared.Event.{Event}
+use Rattle.log.specs.declared.Event.the-variants.{Store}
 use Rattle.atomicity.specs.History.{Fed, noStep, stepAt}
 use Rattle.atomicity.specs.HappensBefore.{Accepted, HappensBefore, inThread, byLock, through}
 use Rattle.atomicity.proofs.Logged.{Entries, Made, Is, IsReleaseOf, IsAcquireOf, Grows, still-is}

@@ -7,10 +7,10 @@ use lib.Dec.{T, eqb, eqb→eq}
 use Rattle.answer.specs.Lists.{tab, someBelow, setFrom, mixFrom}
 use Rattle.answer.specs.Refusals.{unless}
 use Rattle.cache.specs.Cache.{cacheOf, storeOf, flushOf, fenceOf, evictOf}
-use Rattle.log.specs.Ring.{freshTail, grownTail, roomTests, flushedTail, fencedTail, releasedTail}
+use Rattle.ring.specs.Ring.{freshTail, grownTail, roomTests, flushedTail, fencedTail, releasedTail}
 use Rattle.log.specs.Entries.{freshLog, isLiveSlot, appendOf, flushLogOf, endReleaseOf, persistSlot, persistFrom, fenceLogOf, evictSlotTests, evictSlotOf, pruneOf}
 use Rattle.log.specs.Regions.{loggedAmong, loggedOf, goesOn, oldestRegion, isFinished}
-use Rattle.log.specs.Stretch.{stretchOf, holds, presentFrom, presentOf}
+use Rattle.stretch.specs.Stretch.{stretchOf, holds, presentFrom, presentOf}
 use Rattle.machine.specs.Clocks.{clockAt, joinOf, raisedOf, loadRaces, logRaces, loadedOf, loggedCellOf}
 use Rattle.machine.specs.Effects.{loadEffect, logEffect, storeEffect, acquireEffect, logReleaseEffect, releaseEffect, flushEffect, flushLogEffect, fenceEffect, pruneEffect, evictEffect, evictLogEffect, effect}
 use Rattle.machine.specs.Holds.{freshMachine, startOf}

@@ -15,11 +15,11 @@ use Rattle.answer.proofs.RefusalLaws.{AllFail}
 use Rattle.cache.specs.Cache.{cellCount}
 use Rattle.log.specs.Entries.{liveEvent, flushLogOf, endReleaseOf, fenceLogOf, evictSlotOf, pruneOf}
 use Rattle.log.specs.Regions.{isRelease, oldestRegion}
-use Rattle.log.specs.Ring.{flushedTail, fencedTail, releasedTail}
-use Rattle.log.specs.declared.entries.Event.{Event}
-use Rattle.log.specs.declared.entries.Event.the-variants.{Empty, Store, Acquire, Release}
-use Rattle.log.specs.declared.entries.Log.{Log}
-use Rattle.log.specs.declared.entries.SyncCount.{SyncCount}
+use Rattle.ring.specs.Ring.{flushedTail, fencedTail, releasedTail}
+use Rattle.log.specs.declared.Event.{Event}
+use Rattle.log.specs.declared.Event.the-variants.{Empty, Store, Acquire, Release}
+use Rattle.log.specs.declared.Log.{Log}
+use Rattle.log.specs.declared.SyncCount.{SyncCount}
 use Rattle.log.proofs.RegionLaws.{live-event}
 use Rattle.machine.specs.Clocks.{loadedOf, loggedCellOf}
 use Rattle.machine.specs.Effects.{loadEffect, logEffect, storeEffect, acquireEffect, logReleaseEffect, releaseEffect, flushEffect, flushLogEffect, fenceEffect, pruneEffect, evictEffect, evictLogEffect, countPruned, effect}

@@ -16,12 +16,13 @@ use Rattle.answer.proofs.BelowLaws.{none-someBelow}
 use Rattle.answer.proofs.ListLaws.{length-tab, getD-tab, map-tab}
 use Rattle.cache.proofs.CacheLaws as CacheLaws
 use Rattle.log.specs.Entries.{syncCount, kindOf, placeOf, valueOf}
-use Rattle.log.specs.Stretch.{imageWords, headsAt, stretchOf, kindAt, placeAt, valueAt, presentOf}
-use Rattle.log.specs.declared.entries.Event.{Event}
-use Rattle.log.specs.declared.entries.Event.the-variants.{Empty, Store, Acquire, Release}
-use Rattle.log.specs.declared.entries.Log.{Log}
-use Rattle.log.specs.declared.entries.SyncCount.{SyncCount}
-use Rattle.log.proofs.ImageLaws.{Reads, logs-read}
+use Rattle.stretch.specs.Stretch.{imageWords, headsAt, stretchOf, kindAt, placeAt, valueAt, presentOf}
+use Rattle.log.specs.declared.Event.{Event}
+use Rattle.log.specs.declared.Event.the-variants.{Empty, Store, Acquire, Release}
+use Rattle.log.specs.declared.Log.{Log}
+use Rattle.log.specs.declared.SyncCount.{SyncCount}
+use Rattle.stretch.proofs.ImageLaws.{Reads}
+use Rattle.log.proofs.ImageLaws.{logs-read}
 use Rattle.log.proofs.LogInvariant.{LogHolds}
 use Rattle.log.proofs.PresentLaws.{PresentAre, present-are}
 use Rattle.log.proofs.SlotLaws.{WordsAre}

@@ -9,12 +9,12 @@ use lib.ListN.{set, replicate}
 use borrow.Author.Tests.{ltb-true, not-false}
 use Rattle.answer.proofs.RefusalLaws.{AllFail}
 use Rattle.cache.specs.Cache.{cellCount, cachedAt}
-use Rattle.log.specs.Ring.{grownTail, flushedTail, fencedTail, releasedTail}
+use Rattle.ring.specs.Ring.{grownTail, flushedTail, fencedTail, releasedTail}
 use Rattle.log.specs.Entries.{syncCount, liveEvent, appendOf, flushLogOf, endReleaseOf, fenceLogOf, evictSlotOf, pruneOf}
 use Rattle.log.specs.Regions.{oldestRegion}
-use Rattle.log.specs.declared.entries.Event.{Event}
-use Rattle.log.specs.declared.entries.Event.the-variants.{Empty, Store, Acquire, Release}
-use Rattle.log.specs.declared.entries.Log.{Log}
+use Rattle.log.specs.declared.Event.{Event}
+use Rattle.log.specs.declared.Event.the-variants.{Empty, Store, Acquire, Release}
+use Rattle.log.specs.declared.Log.{Log}
 use Rattle.machine.specs.Clocks.{clockAt}
 use Rattle.machine.specs.Effects.{loadEffect, logEffect, storeEffect, acquireEffect, logReleaseEffect, releaseEffect, flushEffect, flushLogEffect, fenceEffect, pruneEffect, countPruned, evictEffect, evictLogEffect, effect}
 use Rattle.machine.specs.Holds.{threadCount, lockCount, logOf, lockOf, clockOf, withLog, noClock, startClocks, freshMachine}

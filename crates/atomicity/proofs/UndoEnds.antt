@@ -4,12 +4,13 @@ use mathlib.Core.Path.{_≡_, refl, sym, _∙_}
 use mathlib.Core.Bool.{Bool, true, false, cond, true≢false}
 use mathlib.Core.Logic.{by-cases, Dec·and}
 use mathlib.Core.List.{List}
-use mathlib.Core.Option.{Option, none, some, Option·some-injective, Option·none-ne-some, Option·some-ne-none}
+use mathlib.Core.Option.{Option, none, some, Option·none-ne-some, Option·some-ne-none}
 use native.Mathlib.Decide.{ℕ-discrete, decLt}
 use native.Mathlib.Omega.{arith}
 use borrow.Author.Tests.{ltb-true, ltb-false}
 use Rattle.answer.proofs.BelowLaws.{someBelow-found, someBelow-none}
 use Rattle.recovery.specs.Undo.{StoredLog, Undo, threadCount, leftOf, mayTake, lowestFrom, takeLast, takeFrom, takeNext, takeMany, hasLeft}
+use Rattle.recovery.proofs.UndoLaws.{lowest-may}
 use Rattle.atomicity.specs.AnyOrder.{Undoing}
 use Rattle.atomicity.proofs.Undoable.{Undoable}
 use Rattle.atomicity.proofs.UndoSteps.{lastOf, thread-below, fails, handed-moved, Takeable, mayTake-takeable, takeable-mayTake, takeLast-taken, taken-within}
@@ -45,21 +46,7 @@ find-latest left time first hasEntry (suc bound) = compare-last (find-latest lef
         (λ later. extend left time bound earlier bound (later .0) (omega (arith, later .1)) (λ has. omega arith))
         (λ notLater. extend left time bound earlier (earlier .thread) (earlier .hasEntry) (omega arith) (λ has. by-cases (decLt (time (earlier .thread)) (time bound)) (λ later. absurd (notLater (has, later))) (λ isEarlier. omega arith)))
 
--- the lowest thread found may be taken, and where none is found none may be
-lowest-may : (logs : List StoredLog) (left : List ℕ) (thread count found : ℕ) → lowestFrom logs left thread count ≡ some found → (found < thread + count) × (mayTake logs left found ≡ true)
-unfolding lowestFrom
-lowest-may logs left thread zero found isFound = absurd (Option·none-ne-some found isFound)
-lowest-may logs left thread (suc count) found isFound =
-    by-first (mayTake logs left thread) refl isFound (lowest-may logs left (suc thread) count found)
-  where
-    by-first : (first : Bool) → mayTake logs left thread ≡ first → cond first (some thread) (lowestFrom logs left (suc thread) count) ≡ some found → (lowestFrom logs left (suc thread) count ≡ some found → (found < suc thread + count) × (mayTake logs left found ≡ true)) → (found < thread + suc count) × (mayTake logs left found ≡ true)
-    by-first true may isFirst later =
-        let same = Option·some-injective thread found isFirst in
-        (omega arith, rw (← same) may)
-    by-first false mayNot isLater later =
-        let rest = later isLater in
-        (omega (arith, rest .0), rest .1)
-
+-- where no lowest thread is found none may be taken
 lowest-none : (logs : List StoredLog) (left : List ℕ) (thread count : ℕ) → lowestFrom logs left thread count ≡ none → (other : ℕ) → thread ≤ other → other < thread + count → mayTake logs left other ≡ false
 unfolding lowestFrom
 lowest-none logs left thread zero noneFound other over below = absurd (omega arith)

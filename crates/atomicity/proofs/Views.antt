@@ -11,8 +11,8 @@ use lib.Seq.{getD-set-same, getD-set-other}
 use lib.Dec.{eqb}
 use borrow.Author.Tests.{eq-eqb, ne-eqb}
 use Rattle.log.specs.Entries.{appendOf}
-use Rattle.log.specs.declared.entries.Event.{Event}
-use Rattle.log.specs.declared.entries.Log.{Log}
+use Rattle.log.specs.declared.Event.{Event}
+use Rattle.log.specs.declared.Log.{Log}
 use Rattle.log.proofs.LogInvariant.{withEvent, withEvent-here, withEvent-other}
 use Rattle.log.proofs.LogNumbers.{Numbers, append-numbers}
 use Rattle.machine.specs.Holds.{noLog}

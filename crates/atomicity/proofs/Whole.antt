@@ -14,9 +14,9 @@ use lib.Seq.{take-append-le, take-append-seam}
 use Rattle.answer.proofs.RefusalLaws.{AllFail}
 use Rattle.cache.specs.Cache.{storeOf}
 use Rattle.log.specs.Entries.{appendOf, flushLogOf, endReleaseOf, fenceLogOf, evictSlotOf, pruneOf}
-use Rattle.log.specs.Ring.{flushedTail, fencedTail, releasedTail}
+use Rattle.ring.specs.Ring.{flushedTail, fencedTail, releasedTail}
 use Rattle.log.specs.Regions.{oldestRegion, isRelease}
-use Rattle.log.specs.declared.entries.Event.{Event}
+use Rattle.log.specs.declared.Event.{Event}
 use Rattle.machine.specs.Clocks.{loadedOf, loggedCellOf}
 use Rattle.machine.specs.Effects.{loadEffect, logEffect, storeEffect, acquireEffect, logReleaseEffect, releaseEffect, flushEffect, flushLogEffect, fenceEffect, evictEffect, evictLogEffect, effect}
 use Rattle.machine.specs.Holds.{lockOf}
@@ -296,6 +296,27 @@ module _ {start : List ℕ} {machine : Machine} {history : List Fed} (whole : Wh
               rw atLast (last .1 .made, (cc)));
         }
 
+    -- the number of the entry that the step makes
+    abbrev newest : ℕ
+    newest = logAt (machine .logs) thread .tail .next .0
+
+    -- a step that makes an entry joins the region that the entry joins
+    joined-append : (kind : Kind) (new : Entries) (region : ℕ) {event : Event} → makes (tookStep kind thread place value) thread ≡ true → thread < 4 → AppendRegions (entriesOf machine ghost) new (length history) thread event (whole .home) (withHome (whole .home) thread newest region) region → joins book (kindNumber kind) thread ≡ some (withHome (whole .home) thread newest region thread newest) → JoinsHold start (thenFed history (tookStep kind thread place value)) new (withHome (whole .home) thread newest region)
+    joined-append kind new region isMade inThread homes joinsIt =
+        let fed = tookStep kind thread place value in
+        let counted = whole .world .places .nextIs thread inThread in
+        let atNew : madeBy (thenFed history fed) thread (suc (length history)) ≡ newest = made-new history fed thread ∙ rw isMade (omega arith) in
+        joins-then
+        (whole .home)
+        (withHome (whole .home) thread newest region)
+        fed
+        (homes .appends .grows)
+        (homes .homeKept)
+        (whole .joined)
+        (λ found isAccepted isSome.
+        let lands : some (withHome (whole .home) thread newest region thread newest) ≡ some found = sym joinsIt ∙ isSome in
+        rw atNew (new-made (homes .appends), (cc)))
+
     log-whole : Kept LOG
     unfolding effect logEffect loggedCellOf feed feedAccepted
     log-whole fails =
@@ -303,29 +324,16 @@ module _ {start : List ℕ} {machine : Machine} {history : List Fed} (whole : Wh
         let asked = log-asked machine thread place value fails in
         let appended = log-appends (whole .world) thread place value (whole .follows) fails in
         let region = joinedPlace book thread in
-        let next = logAt (machine .logs) thread .tail .next .0 in
         let homes = append-homes (whole .home) region appended (whole .world .logs thread (asked .inThread) .headNext) in
         let same = book-then (emptyBook start) history fed in
-        let counted = whole .world .places .nextIs thread (asked .inThread) in
-        let atNew : madeBy (thenFed history fed) thread (suc (length history)) ≡ next = made-new history fed thread ∙ rw (eq-eqb thread thread refl) (omega arith) in
         record {
           ghost = ghostThen (whole .world) thread place value (storeEntry (whole .world) thread place value) (loggedVersions (whole .world) thread place value);
-          home = withHome (whole .home) thread next region;
+          home = withHome (whole .home) thread newest region;
           world = world-log (whole .world) thread place value (whole .follows) fails;
           follows = effect-follows machine history (whole .follows) LOG thread place value fails;
           regions = rw same (regions-log book homes (whole .regions));
           writes = rw (same, open-writes (openOf book thread) book thread) (writes-log (logs-cell (whole .world) thread place value (whole .follows) fails) (homes .homeKept) (whole .world .cells) (whole .writes));
-          joined =
-              joins-then
-              (whole .home)
-              (withHome (whole .home) thread next region)
-              fed
-              (appended .grows)
-              (homes .homeKept)
-              (whole .joined)
-              (λ found isAccepted isSome.
-              let lands : some (withHome (whole .home) thread next region thread next) ≡ some found = sym (joins-log-home book homes) ∙ isSome in
-              rw atNew (new-made appended, (cc)));
+          joined = joined-append LOG _ region (rw (eq-eqb thread thread refl)) (asked .inThread) homes (joins-log-home book homes);
         }
 
     acquire-whole : Kept ACQUIRE
@@ -335,29 +343,16 @@ module _ {start : List ℕ} {machine : Machine} {history : List Fed} (whole : Wh
         let asked = acquire-asked machine thread place value fails in
         let appended = appends (whole .world) thread (asked .inThread) (acquireEntry (whole .world) thread place value) (asked .room) in
         let region = length (book .regions) in
-        let next = logAt (machine .logs) thread .tail .next .0 in
         let homes = append-homes (whole .home) region appended (whole .world .logs thread (asked .inThread) .headNext) in
         let same = book-then (emptyBook start) history fed in
-        let counted = whole .world .places .nextIs thread (asked .inThread) in
-        let atNew : madeBy (thenFed history fed) thread (suc (length history)) ≡ next = made-new history fed thread ∙ rw (eq-eqb thread thread refl) (omega arith) in
         record {
           ghost = ghostThen (whole .world) thread place value (acquireEntry (whole .world) thread place value) (ghost .versions);
-          home = withHome (whole .home) thread next region;
+          home = withHome (whole .home) thread newest region;
           world = world-acquire (whole .world) thread place value fails;
           follows = effect-follows machine history (whole .follows) ACQUIRE thread place value fails;
           regions = rw same (regions-acquire book homes (whole .regions));
           writes = rw same (writes-keep (λ cell. refl) (homes .homeKept) (whole .world .cells) (whole .writes));
-          joined =
-              joins-then
-              (whole .home)
-              (withHome (whole .home) thread next region)
-              fed
-              (appended .grows)
-              (homes .homeKept)
-              (whole .joined)
-              (λ found isAccepted isSome.
-              let lands : some (withHome (whole .home) thread next region thread next) ≡ some found = sym (joins-acquire-home book homes) ∙ isSome in
-              rw atNew (new-made appended, (cc)));
+          joined = joined-append ACQUIRE _ region (rw (eq-eqb thread thread refl)) (asked .inThread) homes (joins-acquire-home book homes);
         }
 
     log-release-whole : Kept LOGREL
@@ -367,29 +362,16 @@ module _ {start : List ℕ} {machine : Machine} {history : List Fed} (whole : Wh
         let asked = log-release-asked machine thread place value fails in
         let appended = appends (whole .world) thread (asked .inThread) (releaseEntry (whole .world) thread place value) (asked .room) in
         let region = joinedPlace book thread in
-        let next = logAt (machine .logs) thread .tail .next .0 in
         let homes = append-homes (whole .home) region appended (whole .world .logs thread (asked .inThread) .headNext) in
         let same = book-then (emptyBook start) history fed in
-        let counted = whole .world .places .nextIs thread (asked .inThread) in
-        let atNew : madeBy (thenFed history fed) thread (suc (length history)) ≡ next = made-new history fed thread ∙ rw (eq-eqb thread thread refl) (omega arith) in
         record {
           ghost = ghostThen (whole .world) thread place value (releaseEntry (whole .world) thread place value) (ghost .versions);
-          home = withHome (whole .home) thread next region;
+          home = withHome (whole .home) thread newest region;
           world = world-log-release (whole .world) thread place value fails;
           follows = effect-follows machine history (whole .follows) LOGREL thread place value fails;
           regions = rw same (regions-release book homes (whole .regions));
           writes = rw (same, open-writes (openOf book thread) book thread) (writes-keep (λ cell. refl) (homes .homeKept) (whole .world .cells) (whole .writes));
-          joined =
-              joins-then
-              (whole .home)
-              (withHome (whole .home) thread next region)
-              fed
-              (appended .grows)
-              (homes .homeKept)
-              (whole .joined)
-              (λ found isAccepted isSome.
-              let lands : some (withHome (whole .home) thread next region thread next) ≡ some found = sym (joins-release-home book homes) ∙ isSome in
-              rw atNew (new-made appended, (cc)));
+          joined = joined-append LOGREL _ region (rw (eq-eqb thread thread refl)) (asked .inThread) homes (joins-release-home book homes);
         }
 
   -- each effect whose tests all failed keeps it

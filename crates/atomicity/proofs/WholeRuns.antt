@@ -14,10 +14,10 @@ use Rattle.answer.proofs.ListLaws.{getD-blank}
 use Rattle.cache.specs.Cache.{cacheOf}
 use Rattle.cache.proofs.CacheLaws as CacheLaws
 use Rattle.log.specs.Entries.{freshLog}
-use Rattle.log.specs.Ring.{freshTail}
-use Rattle.log.specs.declared.entries.Event.the-variants.{Empty}
-use Rattle.log.specs.declared.entries.Log.{Log}
-use Rattle.log.specs.declared.ring.Releasing.the-variants.{Nothing, Lock}
+use Rattle.ring.specs.Ring.{freshTail}
+use Rattle.log.specs.declared.Event.the-variants.{Empty}
+use Rattle.log.specs.declared.Log.{Log}
+use Rattle.ring.specs.declared.Releasing.the-variants.{Nothing, Lock}
 use Rattle.log.proofs.LogInvariant.{LogHolds, fresh-holds}
 use Rattle.machine.specs.Holds.{noLog, noLock, lockOf, freshMachine, startOf}
 use Rattle.machine.specs.Runs.{Step}

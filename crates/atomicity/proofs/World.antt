@@ -11,8 +11,8 @@ use Rattle.cache.specs.Cache.{cachedAt, persistedAt}
 use Rattle.cache.specs.declared.Cache.{Cache}
 use Rattle.cache.proofs.CacheLaws as CacheLaws
 use Rattle.log.specs.Regions.{isAcquire, isRelease}
-use Rattle.log.specs.declared.entries.Event.{Event}
-use Rattle.log.specs.declared.entries.Log.{Log}
+use Rattle.log.specs.declared.Event.{Event}
+use Rattle.log.specs.declared.Log.{Log}
 use Rattle.log.proofs.LogInvariant.{LogHolds}
 use Rattle.machine.specs.Holds.{lockOf}
 use Rattle.machine.specs.declared.Machine.{Machine}

@@ -14,11 +14,11 @@ use Rattle.answer.proofs.RefusalLaws.{AllFail}
 use Rattle.cache.specs.Cache.{cachedAt}
 use Rattle.log.specs.Entries.{syncCount, appendTests, appendOf, closesOf}
 use Rattle.log.specs.Regions.{isAcquire, isRelease}
-use Rattle.log.specs.Ring.{grownTail, closedBy}
-use Rattle.log.specs.declared.entries.Event.{Event}
-use Rattle.log.specs.declared.entries.Event.the-variants.{Empty, Store, Acquire, Release}
-use Rattle.log.specs.declared.entries.Log.{Log}
-use Rattle.log.specs.declared.ring.Releasing.the-variants.{Nothing, Lock}
+use Rattle.ring.specs.Ring.{grownTail, closedBy}
+use Rattle.log.specs.declared.Event.{Event}
+use Rattle.log.specs.declared.Event.the-variants.{Empty, Store, Acquire, Release}
+use Rattle.log.specs.declared.Log.{Log}
+use Rattle.ring.specs.declared.Releasing.the-variants.{Nothing, Lock}
 use Rattle.log.proofs.LogInvariant.{LogHolds, withEvent, append-holds}
 use Rattle.log.proofs.LoggedLaws.{EndedAfter, logged-nowhere}
 use Rattle.machine.specs.Clocks.{loggedCellOf, logRaces}

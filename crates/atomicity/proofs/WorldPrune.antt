@@ -14,13 +14,13 @@ use Rattle.answer.proofs.BelowLaws.{someBelow-none}
 use Rattle.cache.specs.Cache.{isDurable}
 use Rattle.log.specs.Entries.{syncCount, liveCount, liveEvent, pruneOf}
 use Rattle.log.specs.Regions.{isAcquire, isRelease, oldestRegion, isFinished}
-use Rattle.log.specs.Ring.{isReleasing}
-use Rattle.log.specs.declared.entries.Event.{Event}
-use Rattle.log.specs.declared.entries.Event.the-variants.{Empty, Store, Acquire, Release}
-use Rattle.log.specs.declared.entries.Log.{Log}
-use Rattle.log.specs.declared.entries.SyncCount.{SyncCount}
-use Rattle.log.specs.declared.ring.Releasing.{Releasing}
-use Rattle.log.specs.declared.ring.Releasing.the-variants.{Nothing, Lock}
+use Rattle.ring.specs.Ring.{isReleasing}
+use Rattle.log.specs.declared.Event.{Event}
+use Rattle.log.specs.declared.Event.the-variants.{Empty, Store, Acquire, Release}
+use Rattle.log.specs.declared.Log.{Log}
+use Rattle.log.specs.declared.SyncCount.{SyncCount}
+use Rattle.ring.specs.declared.Releasing.{Releasing}
+use Rattle.ring.specs.declared.Releasing.the-variants.{Nothing, Lock}
 use Rattle.log.proofs.LogInvariant.{LogHolds, prune-holds}
 use Rattle.log.proofs.RegionLaws.{RegionIs, live-event, oldest-region}
 use Rattle.machine.specs.Effects.{pruneEffect, countPruned, effect}
@@ -192,9 +192,9 @@ module _ {start : List ℕ} {machine : Machine} {history : List Fed} {ghost : Gh
           let from : log .head .0 ≤ number = subst (λ (t : ℕ). logAt (machine .logs) t .head .0 ≤ number) same live in
           let to : number < logAt (moved .logs) thread .head .0 = subst (λ (t : ℕ). number < logAt (moved .logs) t .head .0) same gone in
           let said = says-at number from (omega arith) in
-          let tested = someBelow-none size (λ index. logsUndurable machine (liveEvent log index)) (asked .cellsDurable) (number - log .head .0) (omega arith) in
+          let tested = someBelow-none size (λ index. logsUndurable (machine .cache) (liveEvent log index)) (asked .cellsDurable) (number - log .head .0) (omega arith) in
           let is : ghost .event thread number ≡ Store cell (store .0) = subst (λ (t : ℕ). ghost .event t number ≡ Store cell (store .0)) same (store .1 .says) in
-          let durable = not-false (isDurable (machine .cache) cell) (ap (logsUndurable machine) (sym (said ∙ is)) ∙ tested) in
+          let durable = not-false (isDurable (machine .cache) cell) (ap (logsUndurable (machine .cache)) (sym (said ∙ is)) ∙ tested) in
           true≢false (sym durable ∙ undurable))
           (λ differs. let same = head-other other differs in omega arith))
 
@@ -210,7 +210,7 @@ module _ {start : List ℕ} {machine : Machine} {history : List Fed} {ghost : Gh
   awaited-first {lock} {count} acquire =
       let some-entry = not-empty in
       let said : liveEvent log 0 ≡ Acquire lock (syncCount count) = live-event log (ghost .event thread) holds 0 (log .head .0) (omega arith) (acquire .made .below) ∙ acquire .says in
-      ltb-false (lockOf machine lock .pruned .0) count (ap (awaitsRelease machine) (sym said) ∙ asked .awaitsNothing)
+      ltb-false (lockOf machine lock .pruned .0) count (ap (awaitsRelease (machine .locks)) (sym said) ∙ asked .awaitsNothing)
 
   finished-region : (log .head .0 + size < log .tail .next .0) ⊎ (log .tail .releasing ≡ Nothing)
   finished-region =

@@ -4,7 +4,7 @@ use Prim.Native.Nat.{ℕ, suc, _+_, _-_, _≤_, _<_}
 use native.Mathlib.Decide.{ℕ-discrete}
 use native.Mathlib.Omega.{arith}
 use mathlib.Core.Path.{_≡_, refl, sym, ap, _∙_, subst}
-use mathlib.Core.Bool.{Bool, true, false, cond, and-false, true≢false}
+use mathlib.Core.Bool.{Bool, true, false, cond, _||_, and-false, true≢false}
 use mathlib.Core.List.{List}
 use mathlib.Core.Logic.{_⊎_, inl, inr, ⊎-elim, by-cases}
 use lib.ListN.{length, getD, set}
@@ -15,15 +15,16 @@ use Rattle.cache.specs.Cache.{cachedAt, persistedAt, lineOf, isPending, storeOf
 use Rattle.cache.specs.declared.Cache.{Cache}
 use Rattle.cache.proofs.CacheLaws as CacheLaws
 use Rattle.log.specs.Entries.{flushLogOf, fenceLogOf, evictSlotOf}
-use Rattle.log.specs.Ring.{flushedTail, fencedTail}
-use Rattle.log.specs.declared.entries.Event.the-variants.{Store}
-use Rattle.log.specs.declared.entries.Log.{Log}
+use Rattle.ring.specs.Ring.{flushedTail, fencedTail}
+use Rattle.log.specs.declared.Event.the-variants.{Store}
+use Rattle.log.specs.declared.Log.{Log}
 use Rattle.log.proofs.LogInvariant.{LogHolds, flush-holds, fence-holds, evict-holds}
 use Rattle.log.proofs.LogNumbers.{Numbers, flush-numbers, fence-numbers, evict-numbers}
 use Rattle.log.proofs.LoggedLaws.{LoggedAt, logged-at}
 use Rattle.machine.specs.Clocks.{loadedOf}
 use Rattle.machine.specs.Effects.{loadEffect, storeEffect, flushEffect, flushLogEffect, fenceEffect, evictEffect, evictLogEffect, effect}
-use Rattle.machine.specs.Holds.{withLog, withCache}
+use Rattle.machine.specs.Holds.{withLog, withCache, withAccesses}
+use Rattle.machine.specs.declared.Accesses.{Accesses}
 use Rattle.machine.specs.Kinds.{LOAD, STORE, FLUSH, FLUSHLOG, FENCE, EVICT, EVICTLOG}
 use Rattle.machine.specs.declared.Machine.{Machine}
 use Rattle.machine.proofs.Asked.{load-asked, store-asked, flush-asked, flush-log-asked, fence-asked, evict-asked, evict-log-asked}
@@ -45,6 +46,15 @@ refused-quiet fed isRefused = record {
   makesNone = λ thread. rw isRefused;
   noRelease = λ isAccepted isKind. true≢false (sym isAccepted ∙ isRefused);
   noAcquire = λ isAccepted isKind. true≢false (sym isAccepted ∙ isRefused);
+}
+
+-- an accepted step of a kind that makes no entry and is no RELEASE
+quiet-step : (kind thread place value : ℕ) → (eqb kind 2 || (eqb kind 4 || eqb kind 5)) ≡ false → (kind ≡ 6 → ⊥) → (kind ≡ 4 → ⊥) → thread < 4 → Quiet (record { kind = kind; thread = thread; place = place; value = value; accepted = true })
+quiet-step kind thread place value noEntry noRelease noAcquire inThread = record {
+  thread = λ isAccepted. inThread;
+  makesNone = λ other. rw noEntry (and-false (eqb thread other));
+  noRelease = λ isAccepted isKind. noRelease isKind;
+  noAcquire = λ isAccepted isKind. noAcquire isKind;
 }
 
 -- entries are only kept, and so are the heads
@@ -70,50 +80,45 @@ module _ {start : List ℕ} {machine : Machine} {history : List Fed} {ghost : Gh
   same-locks : SameLocks (locksOf machine) (locksOf machine)
   same-locks = record { releasingSame = λ thread. refl; holderSame = λ lock. refl; countSame = λ lock. refl }
 
-  pub world-refused : (fed : Fed) → fed .accepted ≡ false → World start machine (thenFed history fed) ghost
-  world-refused fed isRefused =
+  -- a step that leaves the logs and the locks alone: what is left to show is of the cache and the cells
+  world-aside : (cache : Cache) (accesses : Accesses) (fed : Fed) (next : Ghost) → next .event ≡ ghost .event → next .time ≡ ghost .time → Quiet fed → Sized (withAccesses (withCache machine cache) accesses) → CacheLaws.Sized cache → CacheLaws.DurableKept cache → CellsHold (entriesOf machine ghost) (contentsOf start cache) (next .versions) → World start (withAccesses (withCache machine cache) accesses) (thenFed history fed) next
+  world-aside cache accesses fed next sameEvent sameTime quiet sized cacheSized durableKept cells =
       world-quiet
       (record {
-        quiet = refused-quiet fed isRefused;
-        sameEvent = refl;
-        sameTime = refl;
-        sized = world .sized;
+        quiet = quiet;
+        sameEvent = sameEvent;
+        sameTime = sameTime;
+        sized = sized;
         logs = world .logs;
-        cacheSized = world .cacheSized;
-        durableKept = world .durableKept;
+        cacheSized = cacheSized;
+        durableKept = durableKept;
         keeps = same-view (entriesOf machine ghost) (length history);
         headSame = λ thread. refl;
         sameLocks = same-locks;
         prunedSame = λ lock. refl;
-        cells = world .cells;
+        cells = cells;
       })
       world
+
+  pub world-refused : (fed : Fed) → fed .accepted ≡ false → World start machine (thenFed history fed) ghost
+  world-refused fed isRefused = world-aside (machine .cache) (machine .accesses) fed ghost refl refl (refused-quiet fed isRefused) (world .sized) (world .cacheSized) (world .durableKept) (world .cells)
 
   module _ (thread place value : ℕ) where
     pub world-load : AllFail (testsOf machine LOAD thread place value) → World start (effect machine LOAD thread place value .machine) (thenFed history (tookStep LOAD thread place value)) ghost
     unfolding effect loadEffect loadedOf
     world-load fails =
-        world-quiet
-        (record {
-          quiet = record {
-            thread = λ isAccepted. load-asked machine thread place value fails .inThread;
-            makesNone = λ other. and-false (eqb thread other);
-            noRelease = λ isAccepted isKind. omega arith;
-            noAcquire = λ isAccepted isKind. omega arith;
-          };
-          sameEvent = refl;
-          sameTime = refl;
-          sized = effect-sized machine (world .sized) LOAD thread place value fails;
-          logs = world .logs;
-          cacheSized = world .cacheSized;
-          durableKept = world .durableKept;
-          keeps = same-view (entriesOf machine ghost) (length history);
-          headSame = λ other. refl;
-          sameLocks = same-locks;
-          prunedSame = λ lock. refl;
-          cells = world .cells;
-        })
-        world
+        world-aside
+        (machine .cache)
+        _
+        (tookStep LOAD thread place value)
+        ghost
+        refl
+        refl
+        (quiet-step 1 thread place value refl (λ isKind. omega arith) (λ isKind. omega arith) (load-asked machine thread place value fails .inThread))
+        (effect-sized machine (world .sized) LOAD thread place value fails)
+        (world .cacheSized)
+        (world .durableKept)
+        (world .cells)
 
     -- the cells after a change of the cache that stores nothing
     cache-cells : (cache : Cache) → ((cell : ℕ) → cachedAt cache cell ≡ cachedAt (machine .cache) cell) → ((cell : ℕ) → (persistedAt cache cell ≡ cachedAt (machine .cache) cell) ⊎ (persistedAt cache cell ≡ persistedAt (machine .cache) cell)) → (after : Machine) → Keeps (entriesOf machine ghost) (entriesOf after ghost) (length history) → ((other : ℕ) → logAt (after .logs) other .head .0 ≡ logAt (machine .logs) other .head .0) → CellsHold (entriesOf after ghost) (contentsOf start cache) (ghost .versions)
@@ -132,28 +137,18 @@ module _ {start : List ℕ} {machine : Machine} {history : List Fed} {ghost : Gh
     pub world-flush : AllFail (testsOf machine FLUSH thread place value) → World start (effect machine FLUSH thread place value .machine) (thenFed history (tookStep FLUSH thread place value)) ghost
     unfolding effect flushEffect
     world-flush fails =
-        let keeps = same-view (entriesOf machine ghost) (length history) in
-        world-quiet
-        (record {
-          quiet = record {
-            thread = λ isAccepted. flush-asked machine thread place value fails .inThread;
-            makesNone = λ other. and-false (eqb thread other);
-            noRelease = λ isAccepted isKind. omega arith;
-            noAcquire = λ isAccepted isKind. omega arith;
-          };
-          sameEvent = refl;
-          sameTime = refl;
-          sized = effect-sized machine (world .sized) FLUSH thread place value fails;
-          logs = world .logs;
-          cacheSized = CacheLaws.flushOf-sized (machine .cache) (world .cacheSized) thread place;
-          durableKept = CacheLaws.flushOf-kept (machine .cache) (world .cacheSized) thread place (world .durableKept);
-          keeps = keeps;
-          headSame = λ other. refl;
-          sameLocks = same-locks;
-          prunedSame = λ lock. refl;
-          cells = cache-cells (flushOf (machine .cache) thread place) (CacheLaws.flushOf-cached (machine .cache) (world .cacheSized) thread place) (λ cell. inr (CacheLaws.flushOf-persisted (machine .cache) (world .cacheSized) thread place cell)) machine keeps (λ other. refl);
-        })
-        world
+        world-aside
+        (flushOf (machine .cache) thread place)
+        (machine .accesses)
+        (tookStep FLUSH thread place value)
+        ghost
+        refl
+        refl
+        (quiet-step 7 thread place value refl (λ isKind. omega arith) (λ isKind. omega arith) (flush-asked machine thread place value fails .inThread))
+        (effect-sized machine (world .sized) FLUSH thread place value fails)
+        (CacheLaws.flushOf-sized (machine .cache) (world .cacheSized) thread place)
+        (CacheLaws.flushOf-kept (machine .cache) (world .cacheSized) thread place (world .durableKept))
+        (cache-cells (flushOf (machine .cache) thread place) (CacheLaws.flushOf-cached (machine .cache) (world .cacheSized) thread place) (λ cell. inr (CacheLaws.flushOf-persisted (machine .cache) (world .cacheSized) thread place cell)) machine (same-view (entriesOf machine ghost) (length history)) (λ other. refl))
 
     -- a test decides whether a cell's persisted content becomes its cached one
     kept-or-same : (test : Bool) (cached persisted : ℕ) {found : ℕ} → found ≡ cond test cached persisted → (found ≡ cached) ⊎ (found ≡ persisted)
@@ -163,28 +158,18 @@ module _ {start : List ℕ} {machine : Machine} {history : List Fed} {ghost : Gh
     pub world-evict : AllFail (testsOf machine EVICT thread place value) → World start (effect machine EVICT thread place value .machine) (thenFed history (tookStep EVICT thread place value)) ghost
     unfolding effect evictEffect
     world-evict fails =
-        let keeps = same-view (entriesOf machine ghost) (length history) in
-        world-quiet
-        (record {
-          quiet = record {
-            thread = λ isAccepted. evict-asked machine thread place value fails .0;
-            makesNone = λ other. and-false (eqb thread other);
-            noRelease = λ isAccepted isKind. omega arith;
-            noAcquire = λ isAccepted isKind. omega arith;
-          };
-          sameEvent = refl;
-          sameTime = refl;
-          sized = effect-sized machine (world .sized) EVICT thread place value fails;
-          logs = world .logs;
-          cacheSized = CacheLaws.evictOf-sized (machine .cache) (world .cacheSized) place;
-          durableKept = CacheLaws.evictOf-kept (machine .cache) (world .cacheSized) place (world .durableKept);
-          keeps = keeps;
-          headSame = λ other. refl;
-          sameLocks = same-locks;
-          prunedSame = λ lock. refl;
-          cells = cache-cells (evictOf (machine .cache) place) (CacheLaws.evictOf-cached (machine .cache) (world .cacheSized) place) (λ cell. kept-or-same (eqb (lineOf cell) place) (cachedAt (machine .cache) cell) (persistedAt (machine .cache) cell) (CacheLaws.evictOf-persisted (machine .cache) (world .cacheSized) place cell)) machine keeps (λ other. refl);
-        })
-        world
+        world-aside
+        (evictOf (machine .cache) place)
+        (machine .accesses)
+        (tookStep EVICT thread place value)
+        ghost
+        refl
+        refl
+        (quiet-step 11 thread place value refl (λ isKind. omega arith) (λ isKind. omega arith) (evict-asked machine thread place value fails .0))
+        (effect-sized machine (world .sized) EVICT thread place value fails)
+        (CacheLaws.evictOf-sized (machine .cache) (world .cacheSized) place)
+        (CacheLaws.evictOf-kept (machine .cache) (world .cacheSized) place (world .durableKept))
+        (cache-cells (evictOf (machine .cache) place) (CacheLaws.evictOf-cached (machine .cache) (world .cacheSized) place) (λ cell. kept-or-same (eqb (lineOf cell) place) (cachedAt (machine .cache) cell) (persistedAt (machine .cache) cell) (CacheLaws.evictOf-persisted (machine .cache) (world .cacheSized) place cell)) machine (same-view (entriesOf machine ghost) (length history)) (λ other. refl))
 
     -- a change of the thread's log that makes no entry, moves no head and leaves the lock being released
     module _ (log : Log) (inRange : thread < 4) (holds : LogHolds log (ghost .event thread)) (nextSame : log .tail .next .0 ≡ logAt (machine .logs) thread .tail .next .0) (headIs : log .head .0 ≡ logAt (machine .logs) thread .head .0) (durableGrows : logAt (machine .logs) thread .tail .durable .0 ≤ log .tail .durable .0) (releasingIs : log .tail .releasing ≡ logAt (machine .logs) thread .tail .releasing) where
@@ -242,12 +227,7 @@ module _ {start : List ℕ} {machine : Machine} {history : List Fed} {ghost : Gh
         refl
         (machine .cache)
         (tookStep FLUSHLOG thread place value)
-        (record {
-          thread = λ isAccepted. inRange;
-          makesNone = λ other. and-false (eqb thread other);
-          noRelease = λ isAccepted isKind. omega arith;
-          noAcquire = λ isAccepted isKind. omega arith;
-        })
+        (quiet-step 8 thread place value refl (λ isKind. omega arith) (λ isKind. omega arith) inRange)
         (effect-sized machine (world .sized) FLUSHLOG thread place value fails)
         (world .cacheSized)
         (world .durableKept)
@@ -270,12 +250,7 @@ module _ {start : List ℕ} {machine : Machine} {history : List Fed} {ghost : Gh
         refl
         (fenceOf (machine .cache) thread)
         (tookStep FENCE thread place value)
-        (record {
-          thread = λ isAccepted. inRange;
-          makesNone = λ other. and-false (eqb thread other);
-          noRelease = λ isAccepted isKind. omega arith;
-          noAcquire = λ isAccepted isKind. omega arith;
-        })
+        (quiet-step 9 thread place value refl (λ isKind. omega arith) (λ isKind. omega arith) inRange)
         (effect-sized machine (world .sized) FENCE thread place value fails)
         (CacheLaws.fenceOf-sized (machine .cache) (world .cacheSized) thread)
         (CacheLaws.fenceOf-kept (machine .cache) (world .cacheSized) thread (world .durableKept))
@@ -297,12 +272,7 @@ module _ {start : List ℕ} {machine : Machine} {history : List Fed} {ghost : Gh
         refl
         (machine .cache)
         (tookStep EVICTLOG thread place value)
-        (record {
-          thread = λ isAccepted. asked .inThread;
-          makesNone = λ other. and-false (eqb thread other);
-          noRelease = λ isAccepted isKind. omega arith;
-          noAcquire = λ isAccepted isKind. omega arith;
-        })
+        (quiet-step 12 thread place value refl (λ isKind. omega arith) (λ isKind. omega arith) (asked .inThread))
         (effect-sized machine (world .sized) EVICTLOG thread place value fails)
         (world .cacheSized)
         (world .durableKept)
@@ -356,24 +326,15 @@ module _ {start : List ℕ} {machine : Machine} {history : List Fed} {ghost : Gh
     pub world-store : AllFail (testsOf machine STORE thread place value) → World start (effect machine STORE thread place value .machine) (thenFed history (tookStep STORE thread place value)) storedVersions
     unfolding effect storeEffect
     world-store fails =
-        world-quiet
-        (record {
-          quiet = record {
-            thread = λ isAccepted. store-asked machine thread place value fails .inThread;
-            makesNone = λ other. and-false (eqb thread other);
-            noRelease = λ isAccepted isKind. omega arith;
-            noAcquire = λ isAccepted isKind. omega arith;
-          };
-          sameEvent = refl;
-          sameTime = refl;
-          sized = effect-sized machine (world .sized) STORE thread place value fails;
-          logs = world .logs;
-          cacheSized = CacheLaws.storeOf-sized (machine .cache) (world .cacheSized) place value;
-          durableKept = CacheLaws.storeOf-kept (machine .cache) (world .cacheSized) place value (world .durableKept);
-          keeps = same-view (entriesOf machine ghost) (length history);
-          headSame = λ other. refl;
-          sameLocks = same-locks;
-          prunedSame = λ lock. refl;
-          cells = cells-store (stores-cell fails) (world .cells);
-        })
-        world
+        world-aside
+        (storeOf (machine .cache) place value)
+        (machine .accesses)
+        (tookStep STORE thread place value)
+        storedVersions
+        refl
+        refl
+        (quiet-step 3 thread place value refl (λ isKind. omega arith) (λ isKind. omega arith) (store-asked machine thread place value fails .inThread))
+        (effect-sized machine (world .sized) STORE thread place value fails)
+        (CacheLaws.storeOf-sized (machine .cache) (world .cacheSized) place value)
+        (CacheLaws.storeOf-kept (machine .cache) (world .cacheSized) place value (world .durableKept))
+        (cells-store (stores-cell fails) (world .cells))

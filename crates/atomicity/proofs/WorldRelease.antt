@@ -14,13 +14,13 @@ use Rattle.answer.proofs.BelowLaws.{someBelow-none}
 use Rattle.cache.specs.Cache.{cachedAt, persistedAt, isDurable}
 use Rattle.log.specs.Entries.{syncCount, liveCount, liveEvent, endReleaseOf, pruneOf}
 use Rattle.log.specs.Regions.{isAcquire, isRelease, oldestRegion, isFinished}
-use Rattle.log.specs.Ring.{isReleasing, releasedTail}
-use Rattle.log.specs.declared.entries.Event.{Event}
-use Rattle.log.specs.declared.entries.Event.the-variants.{Empty, Store, Acquire, Release}
-use Rattle.log.specs.declared.entries.Log.{Log}
-use Rattle.log.specs.declared.entries.SyncCount.{SyncCount}
-use Rattle.log.specs.declared.ring.Releasing.{Releasing}
-use Rattle.log.specs.declared.ring.Releasing.the-variants.{Nothing, Lock}
+use Rattle.ring.specs.Ring.{isReleasing, releasedTail}
+use Rattle.log.specs.declared.Event.{Event}
+use Rattle.log.specs.declared.Event.the-variants.{Empty, Store, Acquire, Release}
+use Rattle.log.specs.declared.Log.{Log}
+use Rattle.log.specs.declared.SyncCount.{SyncCount}
+use Rattle.ring.specs.declared.Releasing.{Releasing}
+use Rattle.ring.specs.declared.Releasing.the-variants.{Nothing, Lock}
 use Rattle.log.proofs.LogInvariant.{LogHolds, release-holds, prune-holds}
 use Rattle.log.proofs.RegionLaws.{RegionIs, live-event, oldest-region}
 use Rattle.machine.specs.Effects.{releaseEffect, pruneEffect, countPruned, effect}

@@ -6,3 +6,4 @@ pub mod Demand3
 pub mod AnyOrder
 pub mod LogSum
 pub mod Points
+pub mod Replay

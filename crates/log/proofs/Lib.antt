@@ -7,11 +7,7 @@ pub mod PresentLaws
 pub mod ImageLaws
 pub mod RegionLaws
 pub mod LoggedLaws
-pub mod LogLaws
-pub mod RingRoom
-pub mod RingValues
 pub mod Appends
 pub mod Copied
-pub mod Presence
 pub mod Slots
 pub mod Walks

@@ -11,13 +11,14 @@ use lib.Dec.{eqb}
 use lib.ListN.{length, getD, length-set, getD-replicate}
 use lib.Seq.{getD-set-same, getD-set-other}
 use Rattle.answer.proofs.RefusalLaws.{AllFail}
-use Rattle.log.specs.Ring.{slotCount, lastLsn, slotOf, freshTail, grownTail, roomTests, flushedTail, fencedTail, releasedTail}
-use Rattle.log.specs.Entries.{entryWords, untouched, freshLog, entryAt, withTail, isLiveSlot, appendTests, appendOf, flushLogOf, endReleaseOf, persistSlot, persistFrom, fenceLogOf, evictSlotOf, pruneOf}
-use Rattle.log.specs.Stretch.{stretchWords, wordAt, holds}
-use Rattle.log.specs.declared.entries.Event.{Event}
-use Rattle.log.specs.declared.entries.Log.{Log}
-use Rattle.log.specs.declared.ring.Tail.{Tail}
-use Rattle.log.proofs.SlotLaws.{slot-below, same-slot, live-slot, entryOf, WordsAre, held-word, persist-length, persist-here, persist-other, persist-holds-other}
+use Rattle.ring.specs.Ring.{slotCount, lastLsn, slotOf, freshTail, grownTail, roomTests, flushedTail, fencedTail, releasedTail}
+use Rattle.stretch.specs.Stretch.{entryWords, stretchWords, wordAt, holds}
+use Rattle.stretch.proofs.Presence.{held-word}
+use Rattle.log.specs.Entries.{untouched, freshLog, entryAt, withTail, isLiveSlot, appendTests, appendOf, flushLogOf, endReleaseOf, persistSlot, persistFrom, fenceLogOf, evictSlotOf, pruneOf}
+use Rattle.log.specs.declared.Event.{Event}
+use Rattle.log.specs.declared.Log.{Log}
+use Rattle.ring.specs.declared.Tail.{Tail}
+use Rattle.log.proofs.SlotLaws.{slot-below, same-slot, live-slot, entryOf, WordsAre, length-persistSlot, persist-here, persist-other, persist-holds-other}
 
 -- the invariant of a log, where `events number` is what the thread's entry of that LSN says, pruned entries included
 pub record LogHolds (log : Log) (events : ℕ → Event) : Type 0 where
@@ -163,7 +164,7 @@ module _ (log : Log) (events : ℕ → Event) (inv : LogHolds log events) where
       let slot = slotOf live in
       record {
         cachedSlots = inv .cachedSlots;
-        persistedWords = persist-length (log .cached) (log .persisted) slot ∙ inv .persistedWords;
+        persistedWords = length-persistSlot (log .cached) (log .persisted) slot ∙ inv .persistedWords;
         headPositive = inv .headPositive;
         headNext = inv .headNext;
         nextBound = inv .nextBound;

@@ -1,10 +1,10 @@
 -- What each change of a log does to its head, to the next LSN, and to the last durable and the last flushed one.
 use Prim.Native.Nat.{ℕ, _+_, _-_}
 use mathlib.Core.Path.{_≡_, refl}
-use Rattle.log.specs.Ring.{freshTail, grownTail, flushedTail, fencedTail, releasedTail}
+use Rattle.ring.specs.Ring.{freshTail, grownTail, flushedTail, fencedTail, releasedTail}
 use Rattle.log.specs.Entries.{freshLog, appendOf, flushLogOf, endReleaseOf, fenceLogOf, evictSlotOf, pruneOf}
-use Rattle.log.specs.declared.entries.Event.{Event}
-use Rattle.log.specs.declared.entries.Log.{Log}
+use Rattle.log.specs.declared.Event.{Event}
+use Rattle.log.specs.declared.Log.{Log}
 
 -- the four numbers of a log
 pub record Numbers (log : Log) (head next durable flushed : ℕ) : Type 0 where

@@ -8,14 +8,14 @@ use native.Mathlib.Nat.{add-suc}
 use native.Mathlib.Omega.{arith}
 use borrow.Author.Tests.{eqb-true, eqb-false}
 use lib.Dec.{eqb}
-use Rattle.log.specs.Ring.{lsn}
+use Rattle.ring.specs.Ring.{lsn}
 use Rattle.log.specs.Entries.{liveCount}
 use Rattle.log.specs.Regions.{isAcquire, isRelease, searched, loggedAmong, loggedOf}
-use Rattle.log.specs.declared.entries.Event.{Event}
-use Rattle.log.specs.declared.entries.Event.the-variants.{Empty, Store, Acquire, Release}
-use Rattle.log.specs.declared.entries.Found.{Found}
-use Rattle.log.specs.declared.entries.Found.the-variants.{Nowhere, At}
-use Rattle.log.specs.declared.entries.Log.{Log}
+use Rattle.log.specs.declared.Event.{Event}
+use Rattle.log.specs.declared.Event.the-variants.{Empty, Store, Acquire, Release}
+use Rattle.log.specs.declared.Found.{Found}
+use Rattle.log.specs.declared.Found.the-variants.{Nowhere, At}
+use Rattle.log.specs.declared.Log.{Log}
 use Rattle.log.proofs.LogInvariant.{LogHolds}
 use Rattle.log.proofs.SlotLaws.{never}
 use Rattle.log.proofs.RegionLaws.{moved, live-event}

@@ -1,6 +1,6 @@
 -- The slots of LSNs, and the words that stand in a persisted slot after a slot was persisted. No invariant of a log is needed here.
 use Prim.Native.Nat.{ℕ, zero, suc, _+_, _*_, _<_, _≤_}
-use mathlib.Core.Bool.{Bool, true, false, _||_}
+use mathlib.Core.Bool.{true}
 use mathlib.Core.Path.{_≡_, refl, ap, _∙_}
 use mathlib.Core.Logic.{_≢_}
 use mathlib.Core.List.{List, [], _∷_}
@@ -10,14 +10,13 @@ use borrow.Author.Tests.{eq-eqb, eqb-true}
 use lib.Dec.{eqb}
 use lib.ListN.{length, getD, set, length-set}
 use lib.Seq.{sets, length-sets, getD-set-same, getD-set-other}
-use Rattle.answer.specs.Lists.{someBelow}
 use Rattle.answer.proofs.BelowLaws.{someBelow-found}
-use Rattle.log.specs.Ring.{slotCount, lsn, slotOf}
-use Rattle.log.specs.Entries.{entryWords, kindOf, placeOf, valueOf, wordsOf, untouched, liveCount, isLiveSlot, persistSlot}
-use Rattle.log.specs.Stretch.{stretchWords, wordAt, kindAt, placeAt, valueAt, holds}
-use Rattle.log.specs.declared.entries.Entry.{Entry}
-use Rattle.log.specs.declared.entries.Event.{Event}
-use Rattle.log.specs.declared.entries.Log.{Log}
+use Rattle.ring.specs.Ring.{slotCount, lsn, slotOf}
+use Rattle.stretch.specs.Stretch.{entryWords, stretchWords, wordAt, kindAt, placeAt, valueAt, holds}
+use Rattle.log.specs.Entries.{kindOf, placeOf, valueOf, wordsOf, untouched, liveCount, isLiveSlot, persistSlot, persistFrom}
+use Rattle.log.specs.declared.Entry.{Entry}
+use Rattle.log.specs.declared.Event.{Event}
+use Rattle.log.specs.declared.Log.{Log}
 
 -- what two constructors that are equal lead to
 pub never : _≡_ {A = ℕ} 0 1 → ⊥
@@ -71,14 +70,16 @@ pub words-hold : (words : List ℕ) (number : ℕ) (event : Event) → WordsAre 
 unfolding holds
 words-hold words number event are = eq-eqb _ _ (are .lsnIs)
 
--- what a slot holds is told by its last word
-pub held-word : (words : List ℕ) (number : ℕ) → holds words number ≡ true → wordAt words number 3 ≡ number
-unfolding holds
-held-word words number held = eqb-true _ _ held
-
-pub persist-length : (cached : List Entry) (words : List ℕ) (slot : ℕ) → length (persistSlot cached words slot) ≡ length words
+pub length-persistSlot : (cached : List Entry) (words : List ℕ) (slot : ℕ) → length (persistSlot cached words slot) ≡ length words
 unfolding persistSlot
-persist-length cached words slot = length-sets words (slot * entryWords) (wordsOf (getD cached slot untouched))
+length-persistSlot cached words slot = length-sets words (slot * entryWords) (wordsOf (getD cached slot untouched))
+
+pub length-persistFrom : (cached : List Entry) (words : List ℕ) (number count : ℕ) → length (persistFrom cached words number count) ≡ length words
+unfolding persistFrom
+length-persistFrom cached words number zero = refl
+length-persistFrom cached words number (suc count) =
+    length-persistSlot cached (persistFrom cached words number count) (slotOf (number + count))
+    ∙ length-persistFrom cached words number count
 
 -- a slot that is persisted has the words of its cached entry
 pub persist-word : (cached : List Entry) (words : List ℕ) (number index : ℕ) → length words ≡ stretchWords → index < entryWords → wordAt (persistSlot cached words (slotOf number)) number index ≡ getD (wordsOf (getD cached (slotOf number) untouched)) index 0

@@ -9,7 +9,7 @@ use lib.Dec.{eqb, ltb}
 use borrow.Author.Tests.{lt-ltb, le-ltb, eq-eqb, ne-eqb}
 use Rattle.answer.specs.Lists.{someBelow}
 use Rattle.answer.proofs.BelowLaws.{none-someBelow}
-use Rattle.log.specs.Ring.{slotOf}
+use Rattle.ring.specs.Ring.{slotOf}
 
 or-true : (b : Bool) → (b || true) ≡ true
 or-true true = refl

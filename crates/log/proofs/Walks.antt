@@ -5,14 +5,14 @@ use mathlib.Core.Bool.{true, false}
 use mathlib.Core.List.{List, []}
 use native.Mathlib.Numerals.{add-one}
 use native.Mathlib.Omega.{arith}
-use Rattle.log.specs.Ring.{lsn, freshTail}
+use Rattle.ring.specs.Ring.{lsn, freshTail}
 use borrow.Author.Tests.{eq-eqb, ne-eqb}
 use Rattle.log.specs.Entries.{liveCount, liveEvent}
 use Rattle.log.specs.Regions.{isAcquire, isRelease, searched, loggedAmong, goesOn, oldestRegion}
-use Rattle.log.specs.declared.ring.Lsn.{Lsn}
-use Rattle.log.specs.declared.entries.Entry.{Entry}
-use Rattle.log.specs.declared.entries.Found.the-variants.{At}
-use Rattle.log.specs.declared.entries.Log.{Log}
+use Rattle.ring.specs.declared.Lsn.{Lsn}
+use Rattle.log.specs.declared.Entry.{Entry}
+use Rattle.log.specs.declared.Found.the-variants.{At}
+use Rattle.log.specs.declared.Log.{Log}
 
 -- a log with these cached entries and this head
 abbrev pub seen : List Entry → Lsn → Log

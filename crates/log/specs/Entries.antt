@@ -1,27 +1,25 @@
--- What an entry records, the words that it is persisted as, and what appends, flushes, fences, evictions and prunings do to a log.
+-- What an entry records, the words that it is persisted as, what appends, flushes, fences, evictions and prunings do to a log, and the
+-- writer of its stretch.
 use Prim.Native.Nat.{ℕ, zero, suc, _+_, _-_, _*_}
 use mathlib.Core.Bool.{Bool, cond, not, _&&_}
-use mathlib.Core.List.{List, [], _∷_}
-use lib.ListN.{getD, set, replicate}
+use mathlib.Core.List.{List, [], _∷_, _++_}
+use lib.ListN.{length, getD, set, replicate, drop}
 use lib.Seq.{sets}
-use lib.Dec.{eqb, leb}
+use lib.Dec.{eqb, leb, ltb}
 use Rattle.answer.specs.Lists.{someBelow}
 use Rattle.answer.specs.Refusals.{Test, _⇒_, unless}
 use Rattle.answer.specs.declared.Answer.the-variants.{Accepted, NoLiveEntry}
-use Rattle.log.specs.Ring.{slotCount, lsn, slotOf, freshTail, grownTail, roomTests, flushedTail, fencedTail, releasedTail}
-use Rattle.log.specs.declared.ring.Releasing.{Releasing}
-use Rattle.log.specs.declared.ring.Releasing.the-variants.{Nothing, Lock}
-use Rattle.log.specs.declared.ring.Tail.{Tail}
-use Rattle.log.specs.declared.entries.Changed.{Changed}
-use Rattle.log.specs.declared.entries.Event.{Event}
-use Rattle.log.specs.declared.entries.Event.the-variants.{Empty, Store, Acquire, Release}
-use Rattle.log.specs.declared.entries.Entry.{Entry}
-use Rattle.log.specs.declared.entries.Log.{Log}
-use Rattle.log.specs.declared.entries.SyncCount.{SyncCount}
-
--- the words of an entry in an image
-abbrev pub entryWords : ℕ
-entryWords = 4
+use Rattle.ring.specs.Ring.{slotCount, lsn, slotOf, freshTail, grownTail, roomTests, flushedTail, fencedTail, releasedTail}
+use Rattle.stretch.specs.Stretch.{entryWords, stretchWords}
+use Rattle.ring.specs.declared.Releasing.{Releasing}
+use Rattle.ring.specs.declared.Releasing.the-variants.{Nothing, Lock}
+use Rattle.ring.specs.declared.Tail.{Tail}
+use Rattle.log.specs.declared.Changed.{Changed}
+use Rattle.log.specs.declared.Event.{Event}
+use Rattle.log.specs.declared.Event.the-variants.{Empty, Store, Acquire, Release}
+use Rattle.log.specs.declared.Entry.{Entry}
+use Rattle.log.specs.declared.Log.{Log}
+use Rattle.log.specs.declared.SyncCount.{SyncCount}
 
 -- the lock count of a number
 abbrev pub syncCount : ℕ → SyncCount
@@ -186,3 +184,8 @@ pruneToOf log number =
       tail = log .tail;
     })
     log
+
+-- the writer of a log's stretch over a lent part: its first 256 words are the persisted ones, and a part that is too short is as it was
+unfoldable pub writtenOf : Log → List ℕ → List ℕ
+writtenOf log part =
+    cond (ltb (length part) stretchWords) part (log .persisted ++ drop stretchWords part)

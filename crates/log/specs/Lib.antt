@@ -1,5 +1,3 @@
--- One thread's log: LSNs and slots, entries and their words, regions, and a log's stretch of an image. Nothing here names a thread.
-pub mod Ring
+-- One thread's log: entries and their words, what changes a log, and its regions. Nothing here names a thread.
 pub mod Entries
 pub mod Regions
-pub mod Stretch

@@ -3,13 +3,13 @@
 use Prim.Native.Nat.{ℕ, zero, suc, _+_, _-_}
 use mathlib.Core.Bool.{Bool, true, false, cond, not, _&&_}
 use lib.Dec.{eqb, ltb}
-use Rattle.log.specs.Ring.{lsn, isReleasing}
+use Rattle.ring.specs.Ring.{lsn, isReleasing}
 use Rattle.log.specs.Entries.{liveCount, liveEvent}
-use Rattle.log.specs.declared.entries.Event.{Event}
-use Rattle.log.specs.declared.entries.Event.the-variants.{Empty, Store, Acquire, Release}
-use Rattle.log.specs.declared.entries.Found.{Found}
-use Rattle.log.specs.declared.entries.Found.the-variants.{Nowhere, At}
-use Rattle.log.specs.declared.entries.Log.{Log}
+use Rattle.log.specs.declared.Event.{Event}
+use Rattle.log.specs.declared.Event.the-variants.{Empty, Store, Acquire, Release}
+use Rattle.log.specs.declared.Found.{Found}
+use Rattle.log.specs.declared.Found.the-variants.{Nowhere, At}
+use Rattle.log.specs.declared.Log.{Log}
 
 abbrev pub isAcquire : Event → Bool
 isAcquire Empty = false

@@ -9,12 +9,12 @@ use Rattle.answer.specs.Lists.{someBelow}
 use Rattle.answer.proofs.RefusalLaws.{AllFail}
 use Rattle.log.specs.Entries.{liveEvent, appendTests, isLiveSlot, evictSlotTests}
 use Rattle.log.specs.Regions.{loggedOf, oldestRegion, isFinished}
-use Rattle.log.specs.Ring.{lsn, isReleasing, isReleasingLock}
-use Rattle.log.specs.declared.entries.Found.{Found}
-use Rattle.log.specs.declared.entries.Found.the-variants.{Nowhere, At}
-use Rattle.log.specs.declared.entries.Log.{Log}
-use Rattle.log.specs.declared.ring.Releasing.{Releasing}
-use Rattle.log.specs.declared.ring.Releasing.the-variants.{Nothing, Lock}
+use Rattle.ring.specs.Ring.{lsn, isReleasing, isReleasingLock}
+use Rattle.log.specs.declared.Found.{Found}
+use Rattle.log.specs.declared.Found.the-variants.{Nowhere, At}
+use Rattle.log.specs.declared.Log.{Log}
+use Rattle.ring.specs.declared.Releasing.{Releasing}
+use Rattle.ring.specs.declared.Releasing.the-variants.{Nothing, Lock}
 use Rattle.machine.specs.Clocks.{loadRaces, logRaces}
 use Rattle.machine.specs.Holds.{logOf, lockOf, isHeld, isHeldBy}
 use Rattle.machine.specs.Kinds.{LOAD, LOG, STORE, ACQUIRE, LOGREL, RELEASE, FLUSH, FLUSHLOG, FENCE, PRUNE, EVICT, EVICTLOG, inputTests}
@@ -190,8 +190,8 @@ pub record PruneAsked (machine : Machine) (thread : ℕ) : Type 0 where
   pub inThread : thread < 4
   pub isFinishedRegion : isFinished (logOf machine thread) ≡ true
   pub isDurableRegion : logOf machine thread .head .0 + oldestRegion (logOf machine thread) - 1 ≤ logOf machine thread .tail .durable .0
-  pub awaitsNothing : awaitsRelease machine (liveEvent (logOf machine thread) 0) ≡ false
-  pub cellsDurable : someBelow (oldestRegion (logOf machine thread)) (λ index. logsUndurable machine (liveEvent (logOf machine thread) index)) ≡ false
+  pub awaitsNothing : awaitsRelease (machine .locks) (liveEvent (logOf machine thread) 0) ≡ false
+  pub cellsDurable : someBelow (oldestRegion (logOf machine thread)) (λ index. logsUndurable (machine .cache) (liveEvent (logOf machine thread) index)) ≡ false
 
 pub prune-asked : (machine : Machine) (thread place value : ℕ) → AllFail (testsOf machine PRUNE thread place value) → PruneAsked machine thread
 unfolding inputTests stateTests pruneTests

@@ -1,37 +1,40 @@
--- Lock counts are bounded by the entries made: each RELEASE step uses up a RELEASE entry. So no count passes 4,000,000.
+-- Lock counts and clocks are bounded by the entries made, since each RELEASE step uses up a RELEASE entry, and prunings by how far the heads
+-- moved. So no count of a lock passes 4,000,000, and no number of a clock 1,000,001.
 use Prim.Native.Nat.{ℕ, zero, suc, _+_, _-_, _≤_, _<_, _*_}
-use native.Mathlib.Decide.{ℕ-discrete}
+use native.Mathlib.Decide.{decLt, ℕ-discrete}
 use native.Mathlib.Omega.{arith}
 use mathlib.Core.Path.{_≡_, refl, sym, ap, _∙_, subst}
 use mathlib.Core.Bool.{Bool, true, false, cond}
 use mathlib.Core.List.{List, [], _∷_}
 use mathlib.Core.Logic.{by-cases}
-use lib.ListN.{length, getD, set, replicate}
-use lib.Seq.{getD-set-same, getD-set-other}
+use lib.ListN.{length, getD, set, replicate, getD-replicate, List·getD-eq-default}
 use Rattle.answer.specs.declared.Answer.the-variants.{Accepted, WrongLength}
 use Rattle.answer.proofs.ListLaws.{getD-blank}
+use Rattle.answer.proofs.ListCases.{set-cases, replicate-cases}
 use Rattle.answer.proofs.RefusalLaws.{AllFail}
 use lib.Dec.{eqb}
-use Rattle.log.specs.Entries.{syncCount, liveEvent, freshLog, appendOf, closesOf, flushLogOf, endReleaseOf, fenceLogOf, evictSlotOf, pruneOf}
-use Rattle.log.specs.Regions.{oldestRegion}
-use Rattle.log.specs.Ring.{isReleasing, closedBy, freshTail, grownTail, flushedTail, fencedTail, releasedTail, roomTests}
-use Rattle.log.specs.declared.entries.Event.{Event}
-use Rattle.log.specs.declared.entries.Event.the-variants.{Empty, Store, Acquire, Release}
-use Rattle.log.specs.declared.entries.Log.{Log}
-use Rattle.log.specs.declared.entries.SyncCount.{SyncCount}
+use Rattle.log.specs.Entries.{liveEvent, freshLog, appendTests, appendOf, flushLogOf, endReleaseOf, fenceLogOf, evictSlotOf, pruneOf}
+use Rattle.log.specs.Regions.{oldestRegion, isFinished}
+use Rattle.ring.specs.Ring.{isReleasing, freshTail, grownTail, flushedTail, fencedTail, releasedTail}
+use Rattle.log.specs.declared.Event.{Event}
+use Rattle.log.specs.declared.Event.the-variants.{Empty, Store, Acquire, Release}
+use Rattle.log.specs.declared.Log.{Log}
 use native.Mathlib.Nat.{suc-mul}
-use Rattle.log.specs.declared.ring.Releasing.{Releasing}
-use Rattle.log.specs.declared.ring.Releasing.the-variants.{Nothing, Lock}
+use Rattle.ring.specs.declared.Releasing.{Releasing}
+use Rattle.ring.specs.declared.Releasing.the-variants.{Lock}
 use Rattle.log.proofs.LogInvariant.{append-room}
-use Rattle.machine.specs.Clocks.{loadedOf, loggedCellOf}
-use Rattle.machine.specs.Effects.{loadEffect, logEffect, storeEffect, acquireEffect, logReleaseEffect, releaseEffect, flushEffect, flushLogEffect, fenceEffect, pruneEffect, countPruned, evictEffect, evictLogEffect, effect}
-use Rattle.machine.specs.Holds.{noLog, noLock, logOf, lockOf, withLog, freshMachine, startOf}
+use Rattle.log.proofs.RegionLaws.{region-live, finished-some}
+use Rattle.machine.specs.Clocks.{clockAt, joinOf, raisedOf, loadedOf, loggedCellOf}
+use Rattle.machine.specs.Effects.{loadEffect, logEffect, storeEffect, acquireEffect, logReleaseEffect, releaseEffect, flushEffect, flushLogEffect, fenceEffect, pruneEffect, prunedLocks, evictEffect, evictLogEffect, effect}
+use Rattle.machine.specs.Holds.{noLog, noLock, noClock, logOf, lockOf, clockOf, lockClockOf, startClocks, freshMachine, startOf}
 use Rattle.machine.specs.Kinds.{Kind, LOAD, LOG, STORE, ACQUIRE, LOGREL, RELEASE, FLUSH, FLUSHLOG, FENCE, PRUNE, EVICT, EVICTLOG}
-use Rattle.machine.specs.Runs.{Step, after}
+use Rattle.machine.specs.Runs.{Step, after, Reached}
+use Rattle.machine.specs.declared.Clock.{Clock}
 use Rattle.machine.specs.declared.Lock.{Lock as LockState}
 use Rattle.machine.specs.declared.Machine.{Machine}
 use Rattle.machine.specs.declared.Stepped.{Stepped}
 use Rattle.machine.proofs.Asked.{log-asked, acquire-asked, log-release-asked, release-asked, flush-log-asked, fence-asked, prune-asked, evict-log-asked}
+use Rattle.machine.proofs.ClockLaws.{clockAt-join, clockAt-raised-other, clockAt-raised-own, clockAt-none, start-raised}
 use Rattle.machine.proofs.Sizes.{Sized, effect-sized, fresh-sized}
 use Rattle.machine.proofs.StepLaws.{testsOf, after-keeps}
 
@@ -58,18 +61,29 @@ sum-bound number (first ∷ list) bound default each =
     let rest = sum-bound number list bound default (λ place inRange. each (suc place) (omega arith)) in
     rw (suc-mul (length list) bound) (omega arith)
 
--- the next LSN, and 1 for a thread that is releasing
+-- the next LSN, the oldest live one, and 1 for a thread that is releasing
 abbrev pub nextOf : Log → ℕ
 nextOf log = log .tail .next .0
+
+abbrev pub headOf : Log → ℕ
+headOf log = log .head .0
 
 abbrev pub closingOf : Log → ℕ
 closingOf log = cond (isReleasing (log .tail .releasing)) 1 0
 
--- LSNs are bounded, and a lock's count and the threads that are releasing by the entries made
+-- a clock's number of each thread is at most the thread's next LSN, and less while the thread is releasing
+abbrev pub Within : List Log → Clock → Type 0
+Within logs clock = (thread : ℕ) → clockAt clock thread + closingOf (getD logs thread noLog) ≤ nextOf (getD logs thread noLog)
+
+-- LSNs are bounded, a lock's count and the threads that are releasing by the entries made, its prunings by the heads, and clocks by LSNs
 pub record Counted (machine : Machine) : Type 0 where
   pub sized : Sized machine
   pub nextBound : (thread : ℕ) → nextOf (logOf machine thread) ≤ 1000001
+  pub headBound : (thread : ℕ) → headOf (logOf machine thread) ≤ nextOf (logOf machine thread)
   pub counts : (lock : ℕ) → lockOf machine lock .count .0 + (sumBy closingOf (machine .logs) + 4) ≤ sumBy nextOf (machine .logs)
+  pub prunings : (lock : ℕ) → lockOf machine lock .pruned .0 + 4 ≤ sumBy headOf (machine .logs)
+  pub clocks : (thread : ℕ) → Within (machine .logs) (clockOf machine thread)
+  pub lockClocks : (lock : ℕ) → Within (machine .logs) (lockClockOf machine lock)
 
 -- no lock count passes 4,000,000
 pub count-bound : (machine : Machine) → Counted machine → (lock : ℕ) → lockOf machine lock .count .0 ≤ 4000000
@@ -80,120 +94,255 @@ count-bound machine counted lock =
     let bound = counted .counts lock in
     omega arith
 
+-- and no more regions that end in a RELEASE of a lock are pruned
+pub pruned-bound : (machine : Machine) → Counted machine → (lock : ℕ) → lockOf machine lock .pruned .0 ≤ 4000000
+pruned-bound machine counted lock =
+    let most = sum-bound headOf (machine .logs) 1000001 noLog (λ thread inRange. omega (arith, counted .headBound thread, counted .nextBound thread)) in
+    let four = counted .sized .logs in
+    let total : sumBy headOf (machine .logs) ≤ 4 * 1000001 = rw four at most in
+    let bound = counted .prunings lock in
+    omega arith
+
+-- no number of a thread's clock passes the last of the next LSNs
+pub clock-bound : (machine : Machine) → Counted machine → (thread other : ℕ) → clockAt (clockOf machine thread) other ≤ 1000001
+clock-bound machine counted thread other = omega (arith, counted .clocks thread other, counted .nextBound other)
+
+-- what a log that changes gains in entries pays for what is released, and its head for what is pruned
+record Pays (old new : Log) (released pruned : ℕ) : Type 0 where
+  bound : nextOf new ≤ 1000001
+  live : headOf new ≤ nextOf new
+  entries : nextOf old + closingOf new + released ≤ nextOf new + closingOf old
+  heads : headOf old + pruned ≤ headOf new
+
+-- how much a lock's counts grow
+record Raised (old new : LockState) (released pruned : ℕ) : Type 0 where
+  counts : new .count .0 ≤ old .count .0 + released
+  prunings : new .pruned .0 ≤ old .pruned .0 + pruned
+
+-- a lock that stays raises nothing
+stays : (lock : LockState) → Raised lock lock 0 0
+stays lock = omega arith
+
+-- clocks are within bounds that grow
+within-log : (logs : List Log) (thread : ℕ) (log : Log) → thread < length logs → nextOf (getD logs thread noLog) + closingOf log ≤ nextOf log + closingOf (getD logs thread noLog) → (clock : Clock) → Within logs clock → Within (set logs thread log) clock
+within-log logs thread log inRange grows clock within =
+    set-cases logs thread log noLog inRange (λ other state. clockAt clock other + closingOf state ≤ nextOf state) (omega (arith, within thread)) (λ other differs. within other)
+
+-- what a join knows, one of the two knows
+within-join : (logs : List Log) (one other : Clock) → Within logs one → Within logs other → Within logs (joinOf one other)
+within-join logs one other first second thread = rw (clockAt-join one other thread) (omega (arith, first thread, second thread))
+
+-- a RELEASE step raises the clock of the thread that ends releasing
+within-raised : (logs : List Log) (thread : ℕ) (log : Log) → thread < 4 → thread < length logs → nextOf (getD logs thread noLog) + closingOf log + 1 ≤ nextOf log + closingOf (getD logs thread noLog) → (clock : Clock) → Within logs clock → Within (set logs thread log) (raisedOf clock thread)
+within-raised logs thread log inThreads inRange grows clock within =
+    set-cases
+    logs
+    thread
+    log
+    noLog
+    inRange
+    (λ other state. clockAt (raisedOf clock thread) other + closingOf state ≤ nextOf state)
+    (rw (clockAt-raised-own clock thread inThreads) (omega (arith, within thread)))
+    (λ other differs. rw (clockAt-raised-other clock thread other differs) (within other))
+
 module _ (machine next : Machine) (counted : Counted machine) (sized : Sized next) where
-  -- nothing of the logs and counts changes
-  counted-same : next .logs ≡ machine .logs → ((lock : ℕ) → lockOf next lock .count .0 ≡ lockOf machine lock .count .0) → Counted next
-  counted-same sameLogs sameCounts = record {
+  -- nothing of the logs, locks and clocks changes
+  counted-same : next .logs ≡ machine .logs → next .locks ≡ machine .locks → next .clocks ≡ machine .clocks → next .«lock_clocks» ≡ machine .«lock_clocks» → Counted next
+  counted-same sameLogs sameLocks sameClocks sameLockClocks = record {
     sized = sized;
     nextBound = λ thread. rw sameLogs (counted .nextBound thread);
-    counts = λ lock. rw (sameLogs, sameCounts lock) (counted .counts lock);
+    headBound = λ thread. rw sameLogs (counted .headBound thread);
+    counts = λ lock. rw (sameLogs, sameLocks) (counted .counts lock);
+    prunings = λ lock. rw (sameLogs, sameLocks) (counted .prunings lock);
+    clocks = λ thread other. rw (sameLogs, sameClocks) (counted .clocks thread other);
+    lockClocks = λ lock other. rw (sameLogs, sameLockClocks) (counted .lockClocks lock other);
   }
 
-  -- one log changes: what it gains in entries pays for what is released
-  counted-log : (thread : ℕ) (log : Log) (more : ℕ) → thread < 4 → next .logs ≡ set (machine .logs) thread log → nextOf log ≤ 1000001 → nextOf (logOf machine thread) + closingOf log + more ≤ nextOf log + closingOf (logOf machine thread) → ((lock : ℕ) → lockOf next lock .count .0 ≤ lockOf machine lock .count .0 + more) → Counted next
-  counted-log thread log more inRange isSet bound pays counts =
-      let inLogs : thread < length (machine .logs) = rw (counted .sized .logs) inRange in
-      let nexts = sum-set nextOf (machine .logs) thread log noLog inLogs in
-      let closings = sum-set closingOf (machine .logs) thread log noLog inLogs in
-      record {
-        sized = sized;
-        nextBound = λ other.
-            rw isSet
-            (by-cases
-            (ℕ-discrete other thread)
-            (λ same. rw (same, getD-set-same (machine .logs) thread log noLog inLogs) bound)
-            (λ differs. rw (getD-set-other (machine .logs) thread other log noLog differs) (counted .nextBound other)));
-        counts = λ lock.
-            rw isSet
-            (let was = counted .counts lock in
-            let grew = counts lock in
-            omega arith);
-      }
+  module _ (thread : ℕ) (log : Log) (released pruned : ℕ) (inRange : thread < 4) (pays : Pays (logOf machine thread) log released pruned) (raised : (lock : ℕ) → Raised (lockOf machine lock) (lockOf next lock) released pruned) where
+    inLogs : thread < length (machine .logs)
+    inLogs = rw (counted .sized .logs) inRange
 
--- an append makes an entry more
-appended-next : (log : Log) (event : Event) → nextOf (appendOf log event) ≡ nextOf log + 1
-unfolding appendOf grownTail
-appended-next log event = refl
+    -- one log changes, and what it gains pays for the locks
+    counted-change : next .logs ≡ set (machine .logs) thread log → ((owner : ℕ) → Within (set (machine .logs) thread log) (clockOf next owner)) → ((lock : ℕ) → Within (set (machine .logs) thread log) (lockClockOf next lock)) → Counted next
+    counted-change isSet clocks lockClocks =
+        let nexts = sum-set nextOf (machine .logs) thread log noLog inLogs in
+        let closings = sum-set closingOf (machine .logs) thread log noLog inLogs in
+        let heads = sum-set headOf (machine .logs) thread log noLog inLogs in
+        record {
+          sized = sized;
+          nextBound = rw isSet (set-cases (machine .logs) thread log noLog inLogs (λ other state. nextOf state ≤ 1000001) (pays .bound) (λ other differs. counted .nextBound other));
+          headBound = rw isSet (set-cases (machine .logs) thread log noLog inLogs (λ other state. headOf state ≤ nextOf state) (pays .live) (λ other differs. counted .headBound other));
+          counts = λ lock. rw isSet (omega (arith, counted .counts lock, raised lock .counts));
+          prunings = λ lock. rw isSet (omega (arith, counted .prunings lock, raised lock .prunings));
+          clocks = rw isSet clocks;
+          lockClocks = rw isSet lockClocks;
+        }
 
-pruned-counts : (machine : Machine) (last : Event) (lock : ℕ) → lockOf (countPruned machine last) lock .count .0 ≡ lockOf machine lock .count .0
-pruned-counts machine Empty lock = refl
-pruned-counts machine (Store cell old) lock = refl
-pruned-counts machine (Acquire held count) lock = refl
-pruned-counts machine (Release held count) lock = same-count (machine .locks) held lock (syncCount (lockOf machine held .pruned .0 + 1))
+    -- one log changes, and no clock
+    counted-log : next .logs ≡ set (machine .logs) thread log → next .clocks ≡ machine .clocks → next .«lock_clocks» ≡ machine .«lock_clocks» → Counted next
+    counted-log isSet sameClocks sameLockClocks =
+        let grows = within-log (machine .logs) thread log inLogs (omega arith) in
+        counted-change isSet (λ owner. rw sameClocks (grows (clockOf machine owner) (counted .clocks owner))) (λ lock. rw sameLockClocks (grows (lockClockOf machine lock) (counted .lockClocks lock)))
+
+closing-most : (log : Log) → closingOf log ≤ 1
+closing-most log = by-flag (isReleasing (log .tail .releasing))
   where
-    same-count : (locks : List LockState) (held lock : ℕ) (pruned : SyncCount) → getD (set locks held (record { holder = getD locks held noLock .holder; count = getD locks held noLock .count; pruned = pruned })) lock noLock .count .0 ≡ getD locks lock noLock .count .0
-    same-count [] held lock pruned = refl
-    same-count (first ∷ locks) zero zero pruned = refl
-    same-count (first ∷ locks) zero (suc lock) pruned = refl
-    same-count (first ∷ locks) (suc held) zero pruned = refl
-    same-count (first ∷ locks) (suc held) (suc lock) pruned = same-count locks held lock pruned
+    by-flag : (flag : Bool) → cond flag 1 0 ≤ 1
+    by-flag true = omega arith
+    by-flag false = omega arith
 
-pruned-logs : (machine : Machine) (last : Event) → countPruned machine last .logs ≡ machine .logs
-pruned-logs machine Empty = refl
-pruned-logs machine (Store cell old) = refl
-pruned-logs machine (Acquire held count) = refl
-pruned-logs machine (Release held count) = refl
+-- an append makes an entry more, which may be a RELEASE
+append-pays : (log : Log) (event : Event) → AllFail (appendTests log) → headOf log ≤ nextOf log → Pays log (appendOf log event) 0 0
+unfolding appendOf grownTail
+append-pays log event fails live = omega (arith, append-room log fails .0, closing-most (appendOf log event))
 
--- a lock that is changed: its count, and the others' as they were
-changed-count : (locks : List LockState) (place : ℕ) (state : LockState) (more : ℕ) → place < length locks → state .count .0 ≤ getD locks place noLock .count .0 + more → (lock : ℕ) → getD (set locks place state) lock noLock .count .0 ≤ getD locks lock noLock .count .0 + more
-changed-count locks place state more inRange self lock =
-    by-cases
-    (ℕ-discrete lock place)
-    (λ same. rw (same, getD-set-same locks place state noLock inRange) self)
-    (λ differs. rw (getD-set-other locks place lock state noLock differs) (omega arith))
+-- a RELEASE step uses up what the thread has been releasing
+ends-pays : (log : Log) (lock : ℕ) → log .tail .releasing ≡ Lock lock → nextOf log ≤ 1000001 → headOf log ≤ nextOf log → Pays log (endReleaseOf log) 1 0
+unfolding endReleaseOf releasedTail
+ends-pays log lock releases bound live = let closing : closingOf log ≡ 1 = rw releases in omega arith
+
+-- the head moves past a finished region
+prune-pays : (log : Log) → isFinished log ≡ true → nextOf log ≤ 1000001 → headOf log ≤ nextOf log → Pays log (pruneOf log (oldestRegion log)) 0 1
+unfolding pruneOf
+prune-pays log finished bound live = omega (arith, finished-some log finished, region-live log)
+
+-- a lock that is changed: its counts, and the others' as they were
+changed-lock : (locks : List LockState) (place : ℕ) (state : LockState) (released pruned : ℕ) → Raised (getD locks place noLock) state released pruned → (lock : ℕ) → Raised (getD locks lock noLock) (getD (set locks place state) lock noLock) released pruned
+changed-lock [] place state released pruned self lock = omega arith
+changed-lock (first ∷ locks) zero state released pruned self zero = self
+changed-lock (first ∷ locks) zero state released pruned self (suc lock) = omega arith
+changed-lock (first ∷ locks) (suc place) state released pruned self zero = omega arith
+changed-lock (first ∷ locks) (suc place) state released pruned self (suc lock) = changed-lock locks place state released pruned self lock
+
+pruned-locks : (locks : List LockState) (last : Event) (lock : ℕ) → Raised (getD locks lock noLock) (getD (prunedLocks locks last) lock noLock) 0 1
+pruned-locks locks Empty lock = omega arith
+pruned-locks locks (Store cell old) lock = omega arith
+pruned-locks locks (Acquire held count) lock = omega arith
+pruned-locks locks (Release held count) lock = changed-lock locks held _ 0 1 (omega arith) lock
 
 pub effect-counted : (machine : Machine) → Counted machine → (kind : Kind) (thread place value : ℕ) → AllFail (testsOf machine kind thread place value) → Counted (effect machine kind thread place value .machine)
-unfolding effect loadEffect logEffect storeEffect acquireEffect logReleaseEffect releaseEffect flushEffect flushLogEffect fenceEffect pruneEffect evictEffect evictLogEffect loadedOf loggedCellOf appendOf grownTail flushLogOf flushedTail endReleaseOf releasedTail fenceLogOf fencedTail evictSlotOf pruneOf
-effect-counted machine counted LOAD thread place value fails = counted-same machine _ counted (effect-sized machine (counted .sized) LOAD thread place value fails) refl (λ lock. refl)
+unfolding effect loadEffect logEffect storeEffect acquireEffect logReleaseEffect releaseEffect flushEffect flushLogEffect fenceEffect pruneEffect evictEffect evictLogEffect loadedOf loggedCellOf flushLogOf flushedTail endReleaseOf releasedTail fenceLogOf fencedTail evictSlotOf
+effect-counted machine counted LOAD thread place value fails = counted-same machine _ counted (effect-sized machine (counted .sized) LOAD thread place value fails) refl refl refl refl
 effect-counted machine counted LOG thread place value fails =
     let asked = log-asked machine thread place value fails in
-    let room = append-room (logOf machine thread) (asked .room) in
-    counted-log machine _ counted (effect-sized machine (counted .sized) LOG thread place value fails) thread (appendOf (logOf machine thread) _) 0 (asked .inThread) refl (omega (arith, room .0)) (rw (asked .notReleasing) (omega arith)) (λ lock. omega arith)
-effect-counted machine counted STORE thread place value fails = counted-same machine _ counted (effect-sized machine (counted .sized) STORE thread place value fails) refl (λ lock. refl)
+    counted-log machine _ counted (effect-sized machine (counted .sized) LOG thread place value fails) thread _ 0 0 (asked .inThread) (append-pays (logOf machine thread) _ (asked .room) (counted .headBound thread)) (λ lock. stays (lockOf machine lock)) refl refl refl
+effect-counted machine counted STORE thread place value fails = counted-same machine _ counted (effect-sized machine (counted .sized) STORE thread place value fails) refl refl refl refl
 effect-counted machine counted ACQUIRE thread place value fails =
     let asked = acquire-asked machine thread place value fails in
-    let room = append-room (logOf machine thread) (asked .room) in
-    let inLocks : place < length (machine .locks) = rw (counted .sized .locks) (asked .inLock) in
-    counted-log machine _ counted (effect-sized machine (counted .sized) ACQUIRE thread place value fails) thread (appendOf (logOf machine thread) _) 0 (asked .inThread) refl (omega (arith, room .0)) (rw (asked .notReleasing) (omega arith)) (changed-count (machine .locks) place _ 0 inLocks (omega arith))
+    let inLogs : thread < length (machine .logs) = rw (counted .sized .logs) (asked .inThread) in
+    let inClocks : thread < length (machine .clocks) = rw (counted .sized .clocks) (asked .inThread) in
+    let event = Acquire place (lockOf machine place .count) in
+    let pays = append-pays (logOf machine thread) event (asked .room) (counted .headBound thread) in
+    let grows = within-log (machine .logs) thread (appendOf (logOf machine thread) event) inLogs (omega arith) in
+    counted-change
+    machine
+    _
+    counted
+    (effect-sized machine (counted .sized) ACQUIRE thread place value fails)
+    thread
+    _
+    0
+    0
+    (asked .inThread)
+    pays
+    (changed-lock (machine .locks) place _ 0 0 (omega arith))
+    refl
+    (set-cases
+    (machine .clocks)
+    thread
+    _
+    noClock
+    inClocks
+    (λ owner clock. Within (set (machine .logs) thread (appendOf (logOf machine thread) event)) clock)
+    (grows _ (within-join (machine .logs) (clockOf machine thread) (lockClockOf machine place) (counted .clocks thread) (counted .lockClocks place)))
+    (λ owner differs. grows (clockOf machine owner) (counted .clocks owner)))
+    (λ lock. grows (lockClockOf machine lock) (counted .lockClocks lock))
 effect-counted machine counted LOGREL thread place value fails =
     let asked = log-release-asked machine thread place value fails in
-    let room = append-room (logOf machine thread) (asked .room) in
-    counted-log machine _ counted (effect-sized machine (counted .sized) LOGREL thread place value fails) thread (appendOf (logOf machine thread) _) 0 (asked .inThread) refl (omega (arith, room .0)) (rw (asked .notReleasing) (omega arith)) (λ lock. omega arith)
+    counted-log machine _ counted (effect-sized machine (counted .sized) LOGREL thread place value fails) thread _ 0 0 (asked .inThread) (append-pays (logOf machine thread) _ (asked .room) (counted .headBound thread)) (λ lock. stays (lockOf machine lock)) refl refl refl
 effect-counted machine counted RELEASE thread place value fails =
     let asked = release-asked machine thread place value fails in
-    let inLocks : place < length (machine .locks) = rw (counted .sized .locks) (asked .inLock) in
-    counted-log machine _ counted (effect-sized machine (counted .sized) RELEASE thread place value fails) thread (endReleaseOf (logOf machine thread)) 1 (asked .inThread) refl (counted .nextBound thread) (rw (asked .isReleasingIt) (omega arith)) (changed-count (machine .locks) place _ 1 inLocks (omega arith))
-effect-counted machine counted FLUSH thread place value fails = counted-same machine _ counted (effect-sized machine (counted .sized) FLUSH thread place value fails) refl (λ lock. refl)
+    let inLogs : thread < length (machine .logs) = rw (counted .sized .logs) (asked .inThread) in
+    let inClocks : thread < length (machine .clocks) = rw (counted .sized .clocks) (asked .inThread) in
+    let inLocks : place < length (machine .«lock_clocks») = rw (counted .sized .lockClocks) (asked .inLock) in
+    let clock = clockOf machine thread in
+    let ended = endReleaseOf (logOf machine thread) in
+    let pays : Pays (logOf machine thread) ended 1 0 = ends-pays (logOf machine thread) place (asked .isReleasingIt) (counted .nextBound thread) (counted .headBound thread) in
+    let grows = within-log (machine .logs) thread ended inLogs (omega arith) in
+    counted-change
+    machine
+    _
+    counted
+    (effect-sized machine (counted .sized) RELEASE thread place value fails)
+    thread
+    ended
+    1
+    0
+    (asked .inThread)
+    pays
+    (changed-lock (machine .locks) place _ 1 0 (omega arith))
+    refl
+    (set-cases
+    (machine .clocks)
+    thread
+    _
+    noClock
+    inClocks
+    (λ owner state. Within (set (machine .logs) thread ended) state)
+    (within-raised (machine .logs) thread ended (asked .inThread) inLogs (omega arith) clock (counted .clocks thread))
+    (λ owner differs. grows (clockOf machine owner) (counted .clocks owner)))
+    (set-cases
+    (machine .«lock_clocks»)
+    place
+    clock
+    noClock
+    inLocks
+    (λ lock state. Within (set (machine .logs) thread ended) state)
+    (grows clock (counted .clocks thread))
+    (λ lock differs. grows (lockClockOf machine lock) (counted .lockClocks lock)))
+effect-counted machine counted FLUSH thread place value fails = counted-same machine _ counted (effect-sized machine (counted .sized) FLUSH thread place value fails) refl refl refl refl
 effect-counted machine counted FLUSHLOG thread place value fails =
-    counted-log machine _ counted (effect-sized machine (counted .sized) FLUSHLOG thread place value fails) thread (flushLogOf (logOf machine thread)) 0 (flush-log-asked machine thread place value fails) refl (counted .nextBound thread) (omega arith) (λ lock. omega arith)
+    counted-log machine _ counted (effect-sized machine (counted .sized) FLUSHLOG thread place value fails) thread _ 0 0 (flush-log-asked machine thread place value fails) (omega (arith, counted .nextBound thread, counted .headBound thread)) (λ lock. stays (lockOf machine lock)) refl refl refl
 effect-counted machine counted FENCE thread place value fails =
-    counted-log machine _ counted (effect-sized machine (counted .sized) FENCE thread place value fails) thread (fenceLogOf (logOf machine thread)) 0 (fence-asked machine thread place value fails) refl (counted .nextBound thread) (omega arith) (λ lock. omega arith)
+    counted-log machine _ counted (effect-sized machine (counted .sized) FENCE thread place value fails) thread _ 0 0 (fence-asked machine thread place value fails) (omega (arith, counted .nextBound thread, counted .headBound thread)) (λ lock. stays (lockOf machine lock)) refl refl refl
 effect-counted machine counted PRUNE thread place value fails =
+    let asked = prune-asked machine thread place value fails in
     let log = logOf machine thread in
-    let moved = withLog machine thread (pruneOf log (oldestRegion log)) in
-    let last = liveEvent log (oldestRegion log - 1) in
-    counted-log machine (countPruned moved last) counted (effect-sized machine (counted .sized) PRUNE thread place value fails) thread (pruneOf log (oldestRegion log)) 0 (prune-asked machine thread place value fails .inThread) (pruned-logs moved last) (counted .nextBound thread) (omega arith) (λ lock. rw (pruned-counts moved last lock) (omega arith))
-effect-counted machine counted EVICT thread place value fails = counted-same machine _ counted (effect-sized machine (counted .sized) EVICT thread place value fails) refl (λ lock. refl)
+    counted-log machine _ counted (effect-sized machine (counted .sized) PRUNE thread place value fails) thread _ 0 1 (asked .inThread) (prune-pays log (asked .isFinishedRegion) (counted .nextBound thread) (counted .headBound thread)) (pruned-locks (machine .locks) (liveEvent log (oldestRegion log - 1))) refl refl refl
+effect-counted machine counted EVICT thread place value fails = counted-same machine _ counted (effect-sized machine (counted .sized) EVICT thread place value fails) refl refl refl refl
 effect-counted machine counted EVICTLOG thread place value fails =
-    counted-log machine _ counted (effect-sized machine (counted .sized) EVICTLOG thread place value fails) thread (evictSlotOf (logOf machine thread) place) 0 (evict-log-asked machine thread place value fails .inThread) refl (counted .nextBound thread) (omega arith) (λ lock. omega arith)
+    counted-log machine _ counted (effect-sized machine (counted .sized) EVICTLOG thread place value fails) thread _ 0 0 (evict-log-asked machine thread place value fails .inThread) (omega (arith, counted .nextBound thread, counted .headBound thread)) (λ lock. stays (lockOf machine lock)) refl refl refl
+
+-- at the start each clock knows of no step, but a thread's own number is 1
+fresh-within : (owner : ℕ) → Within (replicate 4 freshLog) (getD startClocks owner noClock)
+unfolding freshLog freshTail
+fresh-within owner =
+    by-cases
+    (decLt owner 4)
+    (λ inRange. rw (start-raised owner inRange) (within-own inRange))
+    (λ over. let past : 4 ≤ owner = omega arith in rw (List·getD-eq-default startClocks noClock {n = owner} past) none-within)
+  where
+    none-within : Within (replicate 4 freshLog) noClock
+    none-within thread = rw (clockAt-none thread) (replicate-cases (λ log. 0 + closingOf log ≤ nextOf log) 4 thread freshLog noLog (omega arith) (omega arith))
+
+    within-own : owner < 4 → Within (replicate 4 freshLog) (raisedOf noClock owner)
+    within-own inRange thread =
+        by-cases
+        (ℕ-discrete thread owner)
+        (λ same. rw (same, clockAt-raised-own noClock owner inRange, clockAt-none owner, getD-replicate 4 owner freshLog noLog inRange) (omega arith))
+        (λ differs. rw (clockAt-raised-other noClock owner thread differs) (none-within thread))
 
 pub fresh-counted : (cells : List ℕ) → Counted (freshMachine cells)
 unfolding freshMachine freshLog freshTail sumBy
 fresh-counted cells = record {
   sized = fresh-sized cells;
-  nextBound = λ thread. each-next thread;
-  counts = λ lock. rw (each-count lock) (omega arith);
+  nextBound = λ thread. replicate-cases (λ log. nextOf log ≤ 1000001) 4 thread freshLog noLog (omega arith) (omega arith);
+  headBound = λ thread. replicate-cases (λ log. headOf log ≤ nextOf log) 4 thread freshLog noLog (omega arith) (omega arith);
+  counts = λ lock. rw (getD-blank 8 lock noLock) (omega arith);
+  prunings = λ lock. rw (getD-blank 8 lock noLock) (omega arith);
+  clocks = fresh-within;
+  lockClocks = λ lock. rw (getD-blank 8 lock noClock) (fresh-within 4);
 }
-  where
-    each-next : (thread : ℕ) → nextOf (getD (replicate 4 freshLog) thread noLog) ≤ 1000001
-    each-next zero = omega arith
-    each-next (suc zero) = omega arith
-    each-next (suc (suc zero)) = omega arith
-    each-next (suc (suc (suc zero))) = omega arith
-    each-next (suc (suc (suc (suc thread)))) = omega arith
-
-    each-count : (lock : ℕ) → getD (replicate 8 noLock) lock noLock .count .0 ≡ 0
-    each-count lock = ap (λ (state : LockState). state .count .0) (getD-blank 8 lock noLock)
 
 pub start-counted : (words : List ℕ) → Counted (startOf words .machine)
 unfolding startOf
@@ -206,3 +355,7 @@ start-counted words = by-length (eqb (length words) 128)
 -- every machine that the start call and steps lead to is within the bounds
 pub after-counted : (words : List ℕ) (steps : List Step) → Counted (after (startOf words .machine) steps)
 after-counted words steps = after-keeps Counted effect-counted (startOf words .machine) (start-counted words) steps
+
+-- as is every machine that a step is taken on
+pub reached-counted : (machine : Machine) → Reached machine → Counted machine
+reached-counted machine reached = rw (reached .leads) (after-counted (reached .words) (reached .steps))

@@ -9,9 +9,9 @@ use lib.Seq.{getD-set-same, getD-set-other}
 use Rattle.answer.proofs.RefusalLaws.{AllFail}
 use Rattle.log.specs.Entries.{liveEvent, pruneOf}
 use Rattle.log.specs.Regions.{oldestRegion}
-use Rattle.log.specs.declared.entries.Event.{Event}
-use Rattle.log.specs.declared.entries.Event.the-variants.{Empty, Store, Acquire, Release}
-use Rattle.log.specs.declared.entries.Log.{Log}
+use Rattle.log.specs.declared.Event.{Event}
+use Rattle.log.specs.declared.Event.the-variants.{Empty, Store, Acquire, Release}
+use Rattle.log.specs.declared.Log.{Log}
 use Rattle.machine.specs.Clocks.{loadedOf, loggedCellOf}
 use Rattle.machine.specs.Effects.{loadEffect, logEffect, storeEffect, acquireEffect, logReleaseEffect, releaseEffect, flushEffect, flushLogEffect, fenceEffect, pruneEffect, countPruned, evictEffect, evictLogEffect, effect}
 use Rattle.machine.specs.Holds.{noLog, noLock, noClock, logOf, lockOf, withLog, freshMachine, startOf}

@@ -9,7 +9,7 @@ use Rattle.answer.specs.Refusals.{Test}
 use Rattle.answer.specs.declared.Answer.{Answer}
 use Rattle.answer.specs.declared.Answer.the-variants.{NoSuchKind}
 use Rattle.answer.proofs.RefusalLaws.{AllFail, AllRefuse, allRefuse-append, unless-cases}
-use Rattle.log.specs.Ring.{roomTests}
+use Rattle.ring.specs.Ring.{roomTests}
 use Rattle.log.specs.Entries.{evictSlotTests}
 use Rattle.machine.specs.Effects.{effect}
 use Rattle.machine.specs.Kinds.{Kind, LOAD, LOG, STORE, ACQUIRE, LOGREL, RELEASE, FLUSH, FLUSHLOG, FENCE, PRUNE, EVICT, EVICTLOG, kindOf, inputTests}
@@ -19,7 +19,7 @@ use Rattle.machine.specs.Steps.{refused, stepOfKind, stepOfOption, stepO
 use Rattle.machine.specs.declared.Machine.{Machine}
 use Rattle.machine.specs.declared.Stepped.{Stepped}
 
-input-refuses : (kind : Kind) (thread place value : ℕ) → AllRefuse (inputTests kind thread place value)
+pub input-refuses : (kind : Kind) (thread place value : ℕ) → AllRefuse (inputTests kind thread place value)
 unfolding inputTests
 input-refuses kind thread place value = (refl, (refl, (refl, tt)))
 

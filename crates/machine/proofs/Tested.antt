@@ -2,7 +2,7 @@
 use Prim.Native.Nat.{ℕ, _<_, _≤_}
 use mathlib.Core.Path.{_≡_, refl, sym, ap, _∙_}
 use mathlib.Core.Bool.{true, false, _||_, true≢false}
-use mathlib.Core.List.{List, [], _∷_}
+use mathlib.Core.List.{List, [], _∷_, _++_}
 use mathlib.Core.Option.{some}
 use lib.Dec.{eqb, ltb, leb}
 use native.Mathlib.Decide.{decLt}
@@ -11,17 +11,21 @@ use mathlib.Core.Bool.{not}
 use native.Mathlib.Omega.{arith}
 use borrow.Author.Tests.{lt-ltb, le-ltb, le-leb, lt-leb}
 use Rattle.answer.specs.Answer.{numberOf}
-use Rattle.answer.specs.Refusals.{Test, _⇒_, unless}
+use Rattle.answer.specs.Refusals.{Test, _⇒_, unless, firstRefusal}
 use Rattle.answer.specs.declared.Answer.{Answer}
 use Rattle.answer.specs.declared.Answer.the-variants.{Accepted, NoSuchThread, NoSuchPlace}
-use Rattle.answer.proofs.RefusalLaws.{AllRefuse}
-use Rattle.log.specs.declared.entries.Changed.{Changed}
-use Rattle.log.specs.declared.entries.Log.{Log}
+use Rattle.answer.proofs.RefusalLaws.{AllRefuse, stops, goes-on}
+use Rattle.log.specs.Entries.{appendTests, appendOf, appendedOf}
+use Rattle.ring.specs.Ring.{roomTests}
+use Rattle.log.specs.declared.Changed.{Changed}
+use Rattle.log.specs.declared.Event.{Event}
+use Rattle.log.specs.declared.Log.{Log}
 use Rattle.machine.specs.Effects.{effect}
 use Rattle.machine.specs.Kinds.{Kind, Field, below, fieldsOf, isOver, isLeftOver, kindOf, inputTests}
 use Rattle.machine.specs.Refusals.{stateTests}
 use Rattle.machine.specs.Steps.{refused, stepOfKind, stepOf}
 use Rattle.machine.specs.declared.Machine.{Machine}
+use Rattle.machine.specs.declared.Stepped.{Stepped}
 
 module _ (machine : Machine) (number : ℕ) (kind : Kind) (isKind : kindOf number ≡ some kind) (thread place value : ℕ) where
   -- no such thread
@@ -57,6 +61,55 @@ module _ {A : Type 0} (refuse : Answer → A) (outcome : A) (log next : Log) (gi
   accepted-with [] refusals isAccepted = (refl, refl)
   accepted-with ((true ⇒ answer) ∷ tests) refusals isAccepted = absurd (true≢false (sym (ap (λ number. eqb number 0) isAccepted) ∙ refusals .0))
   accepted-with ((false ⇒ answer) ∷ tests) refusals isAccepted = accepted-with tests (refusals .1) isAccepted
+
+-- a step whose fields are in range: its first tests, which are refusals, then the others decide between refusal and effect
+pub record Asks (machine : Machine) (step taken : Stepped) (first others : List Test) : Type 0 where
+  pub refusals : AllRefuse first
+  pub decides : step ≡ unless (refused machine) (first ++ others) taken
+
+-- Code that asks the first tests and looks at the number of what they answer.
+module _ {machine : Machine} {step taken : Stepped} {first others : List Test} (asks : Asks machine step taken first others) {allowed : Answer} {number : ℕ} (isAllowed : allowed ≡ firstRefusal first) (isNumber : number ≡ numberOf allowed) where
+  -- one of them holds: the step is refused with their answer
+  pub asked-refusal : (number ≡ 0 → ⊥) → refused machine allowed ≡ step
+  asked-refusal isRefused =
+      rw isAllowed
+      (sym (asks .decides ∙ stops (refused machine) taken others first (λ none. isRefused (isNumber ∙ rw isAllowed none))))
+
+  -- none of them holds: the others decide
+  pub asked-on : number ≡ 0 → step ≡ unless (refused machine) others taken
+  asked-on isAccepted =
+      asks .decides ∙
+      goes-on (refused machine) taken others first (asks .refusals) (rw isAllowed at (sym isNumber ∙ isAccepted))
+
+-- a step that its own tests allow and that appends this entry to this log: the append's tests decide
+pub record Appends (machine : Machine) (log : Log) (event : Event) (step taken : Stepped) : Type 0 where
+  pub decides : step ≡ unless (refused machine) (appendTests log) taken
+
+-- the append was accepted: the step is its effect, and the log has the entry, beside its LSN
+pub record Appended (log : Log) (event : Event) (changed : Changed) (step taken : Stepped) : Type 0 where
+  pub isTaken : taken ≡ step
+  pub isAnswer : changed .answer ≡ Accepted (log .tail .next .0)
+  pub isLog : changed .log ≡ appendOf log event
+
+-- Code that appends the entry and looks at the number of what the append answers.
+module _ {machine : Machine} {log : Log} {event : Event} {step taken : Stepped} (appends : Appends machine log event step taken) {changed : Changed} {number : ℕ} (isChanged : changed ≡ appendedOf log event) (isNumber : number ≡ numberOf (changed .answer)) where
+  -- the append is refused, so the step is, with the same answer
+  pub append-refusal : (number ≡ 0 → ⊥) → refused machine (changed .answer) ≡ step
+  unfolding appendedOf
+  append-refusal isRefused =
+      rw isChanged
+      (sym (appends .decides ∙ refused-with (refused machine) taken log (appendOf log event) (log .tail .next .0) (appendTests log) (λ none. isRefused (isNumber ∙ rw isChanged none))))
+
+  -- the append is accepted, so the step is
+  pub append-accepted : number ≡ 0 → Appended log event changed step taken
+  unfolding appendedOf roomTests
+  append-accepted isAccepted =
+      let done = accepted-with (refused machine) taken log (appendOf log event) (log .tail .next .0) (appendTests log) (refl, (refl, tt)) (rw isChanged at (sym isNumber ∙ isAccepted)) in
+      record {
+        isTaken = sym (appends .decides ∙ done .0);
+        isAnswer = rw (isChanged, done .1);
+        isLog = rw (isChanged, done .1);
+      }
 
 -- one number is below another where that one is not at most the first
 pub below-not : (a b : ℕ) → ltb a b ≡ not (leb b a)

@@ -60,12 +60,14 @@ loadRaces machine thread cell =
     (getD (machine .accesses .loggers) cell 0)
     thread)
 
+-- some thread's last access of the cell is unknown to the clock
+abbrev pub hasUnknown : Accesses → Clock → ℕ → Bool
+hasUnknown accesses clock cell =
+    someBelow threadCount (λ other. not (isKnown clock (getD (accesses .stamps) (accessPlace cell other) 0) other))
+
 -- 8 for a LOG: some thread's last access of the cell does not happen before it
 unfoldable pub logRaces : Machine → ℕ → ℕ → Bool
-logRaces machine thread cell =
-    someBelow
-    threadCount
-    (λ other. not (isBefore machine (getD (machine .accesses .stamps) (accessPlace cell other) 0) other thread))
+logRaces machine thread cell = hasUnknown (machine .accesses) (clockOf machine thread) cell
 
 -- the accesses after a LOAD
 unfoldable pub loadedOf : Accesses → ℕ → ℕ → ℕ → Accesses

@@ -1,16 +1,18 @@
 -- "Steps": what each kind does once no refusal holds, and the number that it answers.
 use Prim.Native.Nat.{ℕ, _+_, _-_}
 use mathlib.Core.List.{List}
+use lib.ListN.{getD, set}
 use Rattle.answer.specs.declared.Answer.the-variants.{Accepted}
 use Rattle.cache.specs.Cache.{cachedAt, storeOf, flushOf, fenceOf, evictOf}
 use Rattle.log.specs.Entries.{syncCount, liveEvent, appendOf, flushLogOf, endReleaseOf, fenceLogOf, evictSlotOf, pruneOf}
 use Rattle.log.specs.Regions.{oldestRegion}
-use Rattle.log.specs.declared.entries.Event.{Event}
-use Rattle.log.specs.declared.entries.Event.the-variants.{Empty, Store, Acquire, Release}
+use Rattle.log.specs.declared.Event.{Event}
+use Rattle.log.specs.declared.Event.the-variants.{Empty, Store, Acquire, Release}
 use Rattle.machine.specs.Clocks.{joinOf, raisedOf, stampNow, loadedOf, loggedCellOf}
-use Rattle.machine.specs.Holds.{logOf, lockOf, clockOf, lockClockOf, withCache, withLog, withAccesses, withLock, withClock, withLockClock}
+use Rattle.machine.specs.Holds.{logOf, lockOf, clockOf, lockClockOf, withCache, withLog, withAccesses, withLock, withClock, withLockClock, takenBy, noLock, withLocks}
 use Rattle.machine.specs.Kinds.{Kind, LOAD, LOG, STORE, ACQUIRE, LOGREL, RELEASE, FLUSH, FLUSHLOG, FENCE, PRUNE, EVICT, EVICTLOG}
-use Rattle.machine.specs.declared.Holder.the-variants.{Nobody, Thread}
+use Rattle.machine.specs.declared.Holder.the-variants.{Nobody}
+use Rattle.machine.specs.declared.Lock.{Lock}
 use Rattle.machine.specs.declared.Machine.{Machine}
 use Rattle.machine.specs.declared.Stepped.{Stepped}
 
@@ -47,7 +49,7 @@ acquireEffect machine thread lock =
     (withLock
     (withLog machine thread (appendOf (logOf machine thread) (Acquire lock (lockOf machine lock .count))))
     lock
-    (record { holder = Thread thread; count = lockOf machine lock .count; pruned = lockOf machine lock .pruned }))
+    (takenBy (lockOf machine lock) thread))
     thread
     (joinOf (clockOf machine thread) (lockClockOf machine lock)))
 
@@ -57,6 +59,10 @@ logReleaseEffect machine thread lock =
     accepted
     (lockOf machine lock .count .0)
     (withLog machine thread (appendOf (logOf machine thread) (Release lock (lockOf machine lock .count))))
+
+-- a lock that is released: "frees it, adds 1 to the count"
+abbrev pub freedOf : Lock → Lock
+freedOf lock = record { holder = Nobody; count = syncCount (lock .count .0 + 1); pruned = lock .pruned }
 
 -- "RELEASE lock: frees it, adds 1 to the count, ends closing." The lock gets the thread's clock.
 unfoldable pub releaseEffect : Machine → ℕ → ℕ → Stepped
@@ -68,11 +74,7 @@ releaseEffect machine thread lock =
     (withLock
     (withLog machine thread (endReleaseOf (logOf machine thread)))
     lock
-    (record {
-      holder = Nobody;
-      count = syncCount (lockOf machine lock .count .0 + 1);
-      pruned = lockOf machine lock .pruned;
-    }))
+    (freedOf (lockOf machine lock)))
     lock
     (clockOf machine thread))
     thread
@@ -94,20 +96,20 @@ fenceEffect machine thread =
     0
     (withLog (withCache machine (fenceOf (machine .cache) thread)) thread (fenceLogOf (logOf machine thread)))
 
--- where the pruned region's last entry is a RELEASE, one more region that ends in a RELEASE of that lock is pruned
+-- a lock once one more region that ends in a RELEASE of it is pruned
+abbrev pub onePruned : Lock → Lock
+onePruned lock = record { holder = lock .holder; count = lock .count; pruned = syncCount (lock .pruned .0 + 1) }
+
+-- where the pruned region's last entry is a RELEASE, it counts for that lock
+abbrev pub prunedLocks : List Lock → Event → List Lock
+prunedLocks locks Empty = locks
+prunedLocks locks (Store cell old) = locks
+prunedLocks locks (Acquire lock count) = locks
+prunedLocks locks (Release lock count) =
+    set locks lock (onePruned (getD locks lock noLock))
+
 abbrev pub countPruned : Machine → Event → Machine
-countPruned machine Empty = machine
-countPruned machine (Store cell old) = machine
-countPruned machine (Acquire lock count) = machine
-countPruned machine (Release lock count) =
-    withLock
-    machine
-    lock
-    (record {
-      holder = lockOf machine lock .holder;
-      count = lockOf machine lock .count;
-      pruned = syncCount (lockOf machine lock .pruned .0 + 1);
-    })
+countPruned machine last = withLocks machine (prunedLocks (machine .locks) last)
 
 -- "PRUNE: commits the thread's oldest finished region not yet pruned, by moving the head past it. Answers how many entries that freed."
 unfoldable pub pruneEffect : Machine → ℕ → Stepped

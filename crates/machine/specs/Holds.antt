@@ -9,10 +9,10 @@ use Rattle.answer.specs.declared.Answer.{Answer}
 use Rattle.answer.specs.declared.Answer.the-variants.{Accepted, WrongLength}
 use Rattle.cache.specs.Cache.{cellCount, cacheOf}
 use Rattle.cache.specs.declared.Cache.{Cache}
-use Rattle.log.specs.Ring.{lsn}
+use Rattle.ring.specs.Ring.{lsn}
 use Rattle.log.specs.Entries.{syncCount, freshLog}
-use Rattle.log.specs.declared.entries.Log.{Log}
-use Rattle.log.specs.declared.ring.Releasing.the-variants.{Nothing}
+use Rattle.log.specs.declared.Log.{Log}
+use Rattle.ring.specs.declared.Releasing.the-variants.{Nothing}
 use Rattle.machine.specs.declared.Accesses.{Accesses}
 use Rattle.machine.specs.declared.Clock.{Clock}
 use Rattle.machine.specs.declared.Holder.{Holder}
@@ -56,7 +56,7 @@ clockOf machine thread = getD (machine .clocks) thread noClock
 abbrev pub lockClockOf : Machine → ℕ → Clock
 lockClockOf machine lock = getD (machine .«lock_clocks») lock noClock
 
--- the same machine with another cache, log, access record, lock, or clock
+-- the same machine with another cache, log, access record, locks, lock, or clock
 abbrev pub withCache : Machine → Cache → Machine
 withCache machine cache = record {
   cache = cache;
@@ -87,15 +87,18 @@ withAccesses machine accesses = record {
   accesses = accesses;
 }
 
-abbrev pub withLock : Machine → ℕ → Lock → Machine
-withLock machine lock value = record {
+abbrev pub withLocks : Machine → List Lock → Machine
+withLocks machine locks = record {
   cache = machine .cache;
   logs = machine .logs;
   clocks = machine .clocks;
   «lock_clocks» = machine .«lock_clocks»;
-  locks = set (machine .locks) lock value;
+  locks = locks;
   accesses = machine .accesses;
 }
+
+abbrev pub withLock : Machine → ℕ → Lock → Machine
+withLock machine lock value = withLocks machine (set (machine .locks) lock value)
 
 abbrev pub withClock : Machine → ℕ → Clock → Machine
 withClock machine thread clock = record {
@@ -126,6 +129,10 @@ isHeld (Thread holder) = true
 abbrev pub isHeldBy : Holder → ℕ → Bool
 isHeldBy Nobody thread = false
 isHeldBy (Thread holder) thread = eqb holder thread
+
+-- the lock with this thread as its holder
+abbrev pub takenBy : Lock → ℕ → Lock
+takenBy lock thread = record { holder = Thread thread; count = lock .count; pruned = lock .pruned }
 
 -- no step was taken: a thread's own number is 1
 abbrev pub startClocks : List Clock

@@ -4,10 +4,11 @@ use mathlib.Core.Bool.{Bool, true, false, cond, not, _||_}
 use mathlib.Core.List.{List, [], _∷_}
 use mathlib.Core.Option.{Option, none, some}
 use lib.Dec.{eqb, ltb}
-use Rattle.answer.specs.Refusals.{Test, _⇒_}
-use Rattle.answer.specs.declared.Answer.the-variants.{NoSuchThread, NoSuchPlace, UnusedField}
+use Rattle.answer.specs.Refusals.{Test, _⇒_, firstRefusal}
+use Rattle.answer.specs.declared.Answer.{Answer}
+use Rattle.answer.specs.declared.Answer.the-variants.{NoSuchKind, NoSuchThread, NoSuchPlace, UnusedField}
 use Rattle.cache.specs.Cache.{cellCount, lineCount}
-use Rattle.log.specs.Ring.{slotCount}
+use Rattle.ring.specs.Ring.{slotCount}
 use Rattle.machine.specs.Holds.{threadCount, lockCount}
 
 pub data Kind : Type 0 where
@@ -72,9 +73,17 @@ isLeftOver free word = false
 isLeftOver unused word = not (eqb word 0)
 
 -- "2: thread over 3. 3: place over 127 (LOAD, LOG, STORE), 7 (locks), 15 (lines) or 63 (EVICTLOG). 4: an unused field not 0."
+abbrev pub fieldTests : ℕ → Bool → Bool → List Test
+fieldTests thread over left = (not (ltb thread threadCount) ⇒ NoSuchThread) ∷ (over ⇒ NoSuchPlace) ∷ (left ⇒ UnusedField) ∷ []
+
 unfoldable pub inputTests : Kind → ℕ → ℕ → ℕ → List Test
 inputTests kind thread place value =
-    (not (ltb thread threadCount) ⇒ NoSuchThread) ∷
-    (isOver (fieldsOf kind .place) place ⇒ NoSuchPlace) ∷
-    (isLeftOver (fieldsOf kind .thread) thread || isLeftOver (fieldsOf kind .place) place || isLeftOver (fieldsOf kind .value) value ⇒ UnusedField) ∷
-    []
+    fieldTests
+    thread
+    (isOver (fieldsOf kind .place) place)
+    (isLeftOver (fieldsOf kind .thread) thread || isLeftOver (fieldsOf kind .place) place || isLeftOver (fieldsOf kind .value) value)
+
+-- the first refusal because of the input, or acceptance
+abbrev pub inputAnswer : Option Kind → ℕ → ℕ → ℕ → Answer
+inputAnswer none thread place value = NoSuchKind
+inputAnswer (some kind) thread place value = firstRefusal (inputTests kind thread place value)

@@ -1,22 +1,32 @@
 // The machine of document 01: four threads' logs over one cache, the locks, and the clocks that decide races.
 ghost use mathlib.Core.Path.{_≡_};
-ghost use mathlib.Core.Bool.{Bool, not};
-ghost use Prim.Native.Nat.{_<_, _≤_, max};
-ghost use lib.ListN.{getD};
+ghost use mathlib.Core.Bool.{true, not, _||_};
+ghost use Prim.Native.Nat.{_-_, _<_, max};
+ghost use lib.ListN.{length, getD};
+ghost use lib.Dec.{eqb, ltb};
 ghost use Rattle.answer.specs.Lists.{someBelow};
+ghost use Rattle.answer.specs.Refusals.{firstRefusal};
 ghost use Rattle.cache.specs.Cache.{cellCount};
-ghost use Rattle.machine.specs.Clocks.{clockAt, joinOf, raisedOf, isKnown, loadedOf, loggedCellOf, accessPlace};
-ghost use Rattle.machine.specs.Holds.{threadCount, isHeld, isHeldBy, startOf};
-ghost use Rattle.machine.specs.Refusals.{isFound, isUndurableFound};
+ghost use Rattle.log.specs.Entries.{placeOf, liveEvent, pruneOf};
+ghost use Rattle.log.specs.Regions.{oldestRegion, isFinished};
+ghost use Rattle.stretch.specs.Stretch.{imageWords};
+ghost use Rattle.machine.specs.Clocks.{clockAt, joinOf, raisedOf, isKnown, loadedOf, loggedCellOf, hasUnknown};
+ghost use Rattle.machine.specs.Effects.{freedOf, onePruned, prunedLocks};
+ghost use Rattle.machine.specs.Holds.{threadCount, isHeld, isHeldBy, freshMachine, startOf, takenBy, noLock};
+ghost use Rattle.machine.specs.Image.{logInto, cutOf};
+ghost use Rattle.machine.specs.Kinds.{kindOf, fieldTests, inputAnswer};
+ghost use Rattle.machine.specs.Refusals.{isFound, isUndurableFound, isClosing, logTestsOn, storeTestsOn, acquireTestsOn, logReleaseTestsOn, releaseTests, awaitsRelease, logsUndurable, pruneTests};
 ghost use Rattle.machine.specs.Runs.{Reached};
 ghost use Rattle.machine.specs.Steps.{stepOf};
 use answer::Answer;
 use cache::Cache;
-use log::entries::Event;
-use log::entries::Found;
-use log::entries::Log;
-use log::entries::SyncCount;
-use log::ring::Lsn;
+use log::Event;
+use log::Found;
+use log::Log;
+use log::SyncCount;
+use log::write_stretch;
+use ring::Lsn;
+use ring::Tail;
 
 // One number for each thread. A thread's own number is 1 and the RELEASE steps it took; of another thread, how many of that one's
 // RELEASE steps happen before.
@@ -156,6 +166,49 @@ impl Holder {
     }
 }
 
+impl Lock {
+    // The lock in this thread's hands.
+    fn taken_by(self, thread: u8) -> Lock
+        ensures { λ r. ⌜ r ≡ takenBy self thread ⌝ }
+    {
+        let count = self.count;
+        let pruned = self.pruned;
+        Lock {
+            holder: Holder::Thread(thread),
+            count,
+            pruned,
+        }
+    }
+
+    // The lock after a RELEASE of it, where its count can grow.
+    fn freed(self) -> Lock
+        requires { ⌜ self .count .0 < 4294967295 ⌝ }
+        ensures { λ r. ⌜ r ≡ freedOf self ⌝ }
+    {
+        let free = Holder::Nobody;
+        let pruned = self.pruned;
+        Lock {
+            holder: free,
+            count: SyncCount(self.count.0 + 1),
+            pruned,
+        }
+    }
+
+    // The lock after a pruning of a region that ends in a RELEASE of it, where their number can grow.
+    fn counted(self) -> Lock
+        requires { ⌜ self .pruned .0 < 4294967295 ⌝ }
+        ensures { λ r. ⌜ r ≡ onePruned self ⌝ }
+    {
+        let holder = self.holder;
+        let count = self.count;
+        Lock {
+            holder,
+            count,
+            pruned: SyncCount(self.pruned.0 + 1),
+        }
+    }
+}
+
 impl Accesses {
     // The cell's last LOG does not happen before the next step of the thread with this clock.
     fn load_races(self, clock: Clock, cell: usize) -> bool
@@ -172,7 +225,7 @@ impl Accesses {
     // Some thread's last access of the cell does not happen before the next step of the thread with this clock.
     fn log_races(self, clock: Clock, cell: usize) -> bool
         requires { ⌜ cell < cellCount ⌝ }
-        ensures { λ r. ⌜ r ≡ someBelow threadCount (λ other. not (isKnown clock (getD (self .stamps) (accessPlace cell other) 0) other)) ⌝ }
+        ensures { λ r. ⌜ r ≡ hasUnknown self clock cell ⌝ }
     {
         let stamps = self.stamps;
         let first = cell * 4;
@@ -209,6 +262,14 @@ impl Accesses {
     }
 }
 
+// The thread has made a RELEASE entry whose RELEASE step is still to come.
+fn is_releasing(log: Log) -> bool
+    ensures { λ r. ⌜ r ≡ isClosing log ⌝ }
+{
+    let tail = log.tail();
+    tail.is_releasing()
+}
+
 // The current region has the cell's entry.
 fn is_found(found: Found) -> bool
     ensures { λ r. ⌜ r ≡ isFound found ⌝ }
@@ -231,7 +292,622 @@ fn is_undurable(log: Log, found: Found) -> bool
     }
 }
 
+// Some entry before this LSN comes after the last durable one.
+fn is_undurable_before(tail: Tail, end: usize) -> bool
+    ensures { λ r. ⌜ r ≡ ltb (tail .durable .0) (end - 1) ⌝ }
+{
+    let durable = tail.durable_lsn();
+    (durable.0 as u64) + 1 < end as u64
+}
+
+// LOG's own tests, before those of its append: 7, 9, 8.
+fn log_answer(log: Log, accesses: Accesses, clock: Clock, cell: usize) -> Answer
+    requires { ⌜ cell < cellCount ⌝ }
+    ensures { λ r. ⌜ r ≡ firstRefusal (logTestsOn log (hasUnknown accesses clock cell) cell) ⌝ }
+{
+    if is_releasing(log) {
+        return Answer::Releasing;
+    }
+    let found = log.logged(cell);
+    if is_found(found) {
+        return Answer::AlreadyLogged;
+    }
+    if accesses.log_races(clock, cell) {
+        return Answer::Race;
+    }
+    Answer::Accepted(0)
+}
+
+// STORE's tests: 7, 10, 11.
+fn store_answer(log: Log, cell: usize) -> Answer
+    ensures { λ r. ⌜ r ≡ firstRefusal (storeTestsOn log cell) ⌝ }
+{
+    if is_releasing(log) {
+        return Answer::Releasing;
+    }
+    let found = log.logged(cell);
+    if !is_found(found) {
+        return Answer::NotLogged;
+    }
+    if is_undurable(log, found) {
+        return Answer::EntryNotDurable;
+    }
+    Answer::Accepted(0)
+}
+
+// ACQUIRE's own tests, before those of its append: 7, 12.
+fn acquire_answer(log: Log, lock: Lock) -> Answer
+    ensures { λ r. ⌜ r ≡ firstRefusal (acquireTestsOn log lock) ⌝ }
+{
+    if is_releasing(log) {
+        return Answer::Releasing;
+    }
+    let holder = lock.holder;
+    if holder.is_held() {
+        return Answer::LockHeld;
+    }
+    Answer::Accepted(0)
+}
+
+// LOGREL's own tests, before those of its append: 7, 13.
+fn log_release_answer(log: Log, lock: Lock, thread: u8) -> Answer
+    ensures { λ r. ⌜ r ≡ firstRefusal (logReleaseTestsOn log lock thread) ⌝ }
+{
+    if is_releasing(log) {
+        return Answer::Releasing;
+    }
+    let holder = lock.holder;
+    if !holder.is_held_by(thread) {
+        return Answer::LockNotHeld;
+    }
+    Answer::Accepted(0)
+}
+
+// Why a thread with this log may not take the RELEASE step of the lock. The RELEASE entry is the log's last one.
+fn release_answer(log: Log, lock: u8) -> Answer
+    ensures { λ r. ⌜ r ≡ firstRefusal (releaseTests log lock) ⌝ }
+{
+    let tail = log.tail();
+    if !tail.is_releasing_lock(lock) {
+        return Answer::NotReleasing;
+    }
+    let next = tail.next_lsn();
+    if is_undurable_before(tail, next.0 as usize) {
+        return Answer::EntryNotDurable;
+    }
+    Answer::Accepted(0)
+}
+
+// How many pruned regions end in a RELEASE of the lock; past the last lock none does.
+fn pruned_count(locks: [Lock; 8], lock: u8) -> SyncCount
+    ensures { λ r. ⌜ r ≡ getD locks lock noLock .pruned ⌝ }
+{
+    let at = lock as usize;
+    if 7 < at {
+        return SyncCount(0);
+    }
+    let held = locks[at];
+    held.pruned
+}
+
+// The region that begins with this entry waits for a RELEASE that is not pruned.
+fn awaits_release(locks: [Lock; 8], first: Event) -> bool
+    ensures { λ r. ⌜ r ≡ awaitsRelease locks first ⌝ }
+{
+    match first {
+        Event::Empty => false,
+        Event::Store { cell: _, old: _ } => false,
+        Event::Acquire { lock, count } => pruned_count(locks, lock).0 < count.0,
+        Event::Release { lock: _, count: _ } => false,
+    }
+}
+
+// The entry logs a cell that is not durable.
+fn logs_undurable(cache: Cache, event: Event) -> bool
+    ensures { λ r. ⌜ r ≡ logsUndurable cache event ⌝ }
+{
+    match event {
+        Event::Empty => false,
+        Event::Store { cell, old: _ } => !cache.is_durable(cell as usize),
+        Event::Acquire { lock: _, count: _ } => false,
+        Event::Release { lock: _, count: _ } => false,
+    }
+}
+
+// One of the first so many live entries logs a cell that is not durable.
+fn has_undurable(log: Log, cache: Cache, count: usize) -> bool
+    ensures { λ r. ⌜ r ≡ someBelow count (λ index. logsUndurable cache (liveEvent log index)) ⌝ }
+{
+    let mut unasked = count;
+    while 0 < unasked {
+        unasked -= 1;
+        let event = log.live_event(unasked);
+        if logs_undurable(cache, event) {
+            return true;
+        }
+    }
+    false
+}
+
+// Why the oldest region of a thread's log may not be pruned.
+fn prune_answer(log: Log, cache: Cache, locks: [Lock; 8]) -> Answer
+    ensures { λ r. ⌜ r ≡ firstRefusal (pruneTests log cache locks) ⌝ }
+{
+    if !log.is_finished() {
+        return Answer::NothingToPrune;
+    }
+    let region = log.oldest_region();
+    let head = log.head_lsn();
+    let end = head.0 as usize + region;
+    if is_undurable_before(log.tail(), end) {
+        return Answer::EntryNotDurable;
+    }
+    let first = log.live_event(0);
+    if awaits_release(locks, first) {
+        return Answer::EarlierReleaseNotPruned;
+    }
+    if has_undurable(log, cache, region) {
+        return Answer::CellNotDurable;
+    }
+    Answer::Accepted(0)
+}
+
+// The log with its head past the oldest region, which is finished.
+fn pruned_log(log: Log, region: usize) -> Log
+    requires { ⌜ (region ≡ oldestRegion log) × (isFinished log ≡ true) ⌝ }
+    ensures { λ r. ⌜ r ≡ pruneOf log region ⌝ }
+{
+    let head = log.head_lsn();
+    let size = region as u32;
+    let end = head.0 + size;
+    log.prune_to(Lsn(end))
+}
+
+// The locks after a pruning of a region with this last entry, where the number of prunings can grow.
+fn pruned_locks(mut locks: [Lock; 8], last: Event) -> [Lock; 8]
+    requires { ⌜ getD locks (placeOf last) noLock .pruned .0 < 4294967295 ⌝ }
+    ensures { λ r. ⌜ r ≡ prunedLocks locks last ⌝ }
+{
+    match last {
+        Event::Empty => locks,
+        Event::Store { cell: _, old: _ } => locks,
+        Event::Acquire { lock: _, count: _ } => locks,
+        Event::Release { lock, count: _ } => {
+            let at = lock as usize;
+            if 7 < at {
+                return locks;
+            }
+            let held = locks[at];
+            let counted = held.counted();
+            locks[at] = counted;
+            locks
+        }
+    }
+}
+
+// One of two fields is not 0.
+fn is_left(field: u64, other: u64) -> bool
+    ensures { λ r. ⌜ r ≡ (not (eqb field 0) || not (eqb other 0)) ⌝ }
+{
+    if field != 0 {
+        return true;
+    }
+    other != 0
+}
+
+// The first refusal of the tests 2, 3 and 4, or acceptance: `over` says that the place is out of range, and `left` that a field is unused
+// and not 0.
+fn fields_answer(thread: u64, over: bool, left: bool) -> Answer
+    ensures { λ r. ⌜ r ≡ firstRefusal (fieldTests thread over left) ⌝ }
+{
+    if 4 <= thread {
+        return Answer::NoSuchThread;
+    }
+    if over {
+        return Answer::NoSuchPlace;
+    }
+    if left {
+        return Answer::UnusedField;
+    }
+    Answer::Accepted(0)
+}
+
+// The first refusal of the input's tests 1, 2, 3 and 4, or acceptance.
+fn input_answer(kind: u64, thread: u64, place: u64, value: u64) -> Answer
+    ensures { λ r. ⌜ r ≡ inputAnswer (kindOf kind) thread place value ⌝ }
+{
+    match kind {
+        1 | 2 => fields_answer(thread, 127 < place, value != 0),
+        3 => fields_answer(thread, 127 < place, false),
+        4 | 5 | 6 => fields_answer(thread, 7 < place, value != 0),
+        7 => fields_answer(thread, 15 < place, value != 0),
+        8 | 9 | 10 => fields_answer(thread, false, is_left(place, value)),
+        11 => fields_answer(thread, 15 < place, is_left(thread, value)),
+        12 => fields_answer(thread, 63 < place, value != 0),
+        _ => Answer::NoSuchKind,
+    }
+}
+
+// The words of a start call as cells.
+fn start_cells(words: &[u64]) -> [u64; 128]
+    requires { ⌜ length (now words) ≡ cellCount ⌝ }
+    ensures { λ r. ⌜ r ≡ now (words .entry) ⌝ }
+{
+    let mut cells = [0u64; 128];
+    let mut cell = 0;
+    while cell < 128 {
+        cells[cell] = words[cell];
+        cell += 1;
+    }
+    cells
+}
+
+// Writes a thread's head, and its log's stretch from the thread's first word on, into an image.
+fn write_log(log: Log, thread: usize, image: &mut [u64])
+    requires { ⌜ (thread < threadCount) × (length (now image) ≡ imageWords) ⌝ }
+    ensures { λ _. ⌜ now (image .exit) ≡ logInto log thread (now (image .entry)) ⌝ }
+{
+    let head = log.head_lsn();
+    image[128 + thread] = head.0 as u64;
+    let at = 132 + thread * 256;
+    write_stretch(log, &mut image[at..]);
+}
+
 impl Machine {
+    // The machine at the start, with these cells: nothing logged, nothing held, nothing accessed. A thread's own number is 1.
+    fn fresh(cells: [u64; 128]) -> Machine
+        ensures { λ r. ⌜ r ≡ freshMachine cells ⌝ }
+    {
+        let cache = Cache::new(cells);
+        let log = Log::new();
+        let unknown = Clock {
+            t0: 0,
+            t1: 0,
+            t2: 0,
+            t3: 0,
+        };
+        let free = Lock {
+            holder: Holder::Nobody,
+            count: SyncCount(0),
+            pruned: SyncCount(0),
+        };
+        let own0 = Clock {
+            t0: 1,
+            t1: 0,
+            t2: 0,
+            t3: 0,
+        };
+        let own1 = Clock {
+            t0: 0,
+            t1: 1,
+            t2: 0,
+            t3: 0,
+        };
+        let own2 = Clock {
+            t0: 0,
+            t1: 0,
+            t2: 1,
+            t3: 0,
+        };
+        let own3 = Clock {
+            t0: 0,
+            t1: 0,
+            t2: 0,
+            t3: 1,
+        };
+        let accesses = Accesses {
+            stamps: [0; 512],
+            logged: [0; 128],
+            loggers: [0; 128],
+        };
+        Machine {
+            cache,
+            logs: [log; 4],
+            clocks: [own0, own1, own2, own3],
+            lock_clocks: [unknown; 8],
+            locks: [free; 8],
+            accesses,
+        }
+    }
+
+    // The start call: the machine with these cells, or 21 where there are not 128 words, and the machine with all cells 0.
+    pub fn start(words: &[u64]) -> Stepped
+        ensures { λ r. ⌜ r ≡ startOf (now (words .entry)) ⌝ }
+    {
+        if words.len() != 128 {
+            let zeros = [0u64; 128];
+            let machine = Machine::fresh(zeros);
+            return Stepped {
+                answer: Answer::WrongLength,
+                machine,
+            };
+        }
+        let cells = start_cells(words);
+        let machine = Machine::fresh(cells);
+        Stepped {
+            answer: Answer::Accepted(0),
+            machine,
+        }
+    }
+
+    // LOAD: answers the cell's cached content, where its last LOG happens before.
+    pub fn load(mut self, thread: u64, cell: u64) -> Stepped
+        requires { ⌜ Reached self ⌝ }
+        ensures { λ r. ⌜ r ≡ stepOf self 1 thread cell 0 ⌝ }
+    {
+        if 3 < thread {
+            return Stepped {
+                answer: Answer::NoSuchThread,
+                machine: self,
+            };
+        }
+        if 127 < cell {
+            return Stepped {
+                answer: Answer::NoSuchPlace,
+                machine: self,
+            };
+        }
+        let at = thread as usize;
+        let place = cell as usize;
+        let cache = self.cache;
+        let clock = self.clocks[at];
+        let accesses = self.accesses;
+        if accesses.load_races(clock, place) {
+            return Stepped {
+                answer: Answer::Race,
+                machine: self,
+            };
+        }
+        let found = cache.load(place);
+        let stamp = clock.at(at);
+        let loaded = accesses.loaded(at, place, stamp);
+        self.accesses = loaded;
+        Stepped {
+            answer: Answer::Accepted(found),
+            machine: self,
+        }
+    }
+
+    // LOG: a STORE entry with the cell's cached content, where every earlier access of the cell that may race happens before. Answers its LSN.
+    pub fn log(mut self, thread: u64, cell: u64) -> Stepped
+        requires { ⌜ Reached self ⌝ }
+        ensures { λ r. ⌜ r ≡ stepOf self 2 thread cell 0 ⌝ }
+    {
+        if 3 < thread {
+            return Stepped {
+                answer: Answer::NoSuchThread,
+                machine: self,
+            };
+        }
+        if 127 < cell {
+            return Stepped {
+                answer: Answer::NoSuchPlace,
+                machine: self,
+            };
+        }
+        let at = thread as usize;
+        let place = cell as usize;
+        let log = self.logs[at];
+        let clock = self.clocks[at];
+        let accesses = self.accesses;
+        let allowed = log_answer(log, accesses, clock, place);
+        if answer::number(allowed) != 0 {
+            return Stepped {
+                answer: allowed,
+                machine: self,
+            };
+        }
+        let cache = self.cache;
+        let old = cache.load(place);
+        let cell_number = cell as u8;
+        let logged = log.append(Event::Store {
+            cell: cell_number,
+            old,
+        });
+        let refusal = logged.answer;
+        let grown = logged.log;
+        if answer::number(refusal) != 0 {
+            return Stepped {
+                answer: refusal,
+                machine: self,
+            };
+        }
+        let stamp = clock.at(at);
+        let accessed = accesses.logged_cell(at, place, stamp);
+        self.logs[at] = grown;
+        self.accesses = accessed;
+        let lsn = logged.answer;
+        Stepped {
+            answer: lsn,
+            machine: self,
+        }
+    }
+
+    // STORE: the cell's cached content is the value, where the current region has a durable entry of it.
+    pub fn store(mut self, thread: u64, cell: u64, value: u64) -> Stepped
+        requires { ⌜ Reached self ⌝ }
+        ensures { λ r. ⌜ r ≡ stepOf self 3 thread cell value ⌝ }
+    {
+        if 3 < thread {
+            return Stepped {
+                answer: Answer::NoSuchThread,
+                machine: self,
+            };
+        }
+        if 127 < cell {
+            return Stepped {
+                answer: Answer::NoSuchPlace,
+                machine: self,
+            };
+        }
+        let at = thread as usize;
+        let place = cell as usize;
+        let log = self.logs[at];
+        let allowed = store_answer(log, place);
+        if answer::number(allowed) != 0 {
+            return Stepped {
+                answer: allowed,
+                machine: self,
+            };
+        }
+        let cache = self.cache;
+        let stored = cache.store(place, value);
+        self.cache = stored;
+        Stepped {
+            answer: Answer::Accepted(0),
+            machine: self,
+        }
+    }
+
+    // ACQUIRE: takes a free lock, with an ACQUIRE entry of its count. The thread knows what the lock's last RELEASE knew. Answers the count.
+    pub fn acquire(mut self, thread: u64, lock: u64) -> Stepped
+        requires { ⌜ Reached self ⌝ }
+        ensures { λ r. ⌜ r ≡ stepOf self 4 thread lock 0 ⌝ }
+    {
+        if 3 < thread {
+            return Stepped {
+                answer: Answer::NoSuchThread,
+                machine: self,
+            };
+        }
+        if 7 < lock {
+            return Stepped {
+                answer: Answer::NoSuchPlace,
+                machine: self,
+            };
+        }
+        let at = thread as usize;
+        let place = lock as usize;
+        let log = self.logs[at];
+        let wanted = self.locks[place];
+        let allowed = acquire_answer(log, wanted);
+        if answer::number(allowed) != 0 {
+            return Stepped {
+                answer: allowed,
+                machine: self,
+            };
+        }
+        let count = wanted.count;
+        let lock_number = lock as u8;
+        let acquired = log.append(Event::Acquire {
+            lock: lock_number,
+            count,
+        });
+        let refusal = acquired.answer;
+        let begun = acquired.log;
+        if answer::number(refusal) != 0 {
+            return Stepped {
+                answer: refusal,
+                machine: self,
+            };
+        }
+        let holder = thread as u8;
+        let taken = wanted.taken_by(holder);
+        let clock = self.clocks[at];
+        let last_release = self.lock_clocks[place];
+        let joined = clock.join(last_release);
+        self.logs[at] = begun;
+        self.locks[place] = taken;
+        self.clocks[at] = joined;
+        let given = count.0 as u64;
+        Stepped {
+            answer: Answer::Accepted(given),
+            machine: self,
+        }
+    }
+
+    // LOGREL: a RELEASE entry with the lock's count, where the thread holds the lock. Answers the count.
+    pub fn log_release(mut self, thread: u64, lock: u64) -> Stepped
+        requires { ⌜ Reached self ⌝ }
+        ensures { λ r. ⌜ r ≡ stepOf self 5 thread lock 0 ⌝ }
+    {
+        if 3 < thread {
+            return Stepped {
+                answer: Answer::NoSuchThread,
+                machine: self,
+            };
+        }
+        if 7 < lock {
+            return Stepped {
+                answer: Answer::NoSuchPlace,
+                machine: self,
+            };
+        }
+        let at = thread as usize;
+        let log = self.logs[at];
+        let held = self.locks[lock as usize];
+        let holder = thread as u8;
+        let allowed = log_release_answer(log, held, holder);
+        if answer::number(allowed) != 0 {
+            return Stepped {
+                answer: allowed,
+                machine: self,
+            };
+        }
+        let count = held.count;
+        let lock_number = lock as u8;
+        let released = log.append(Event::Release {
+            lock: lock_number,
+            count,
+        });
+        let refusal = released.answer;
+        let entered = released.log;
+        if answer::number(refusal) != 0 {
+            return Stepped {
+                answer: refusal,
+                machine: self,
+            };
+        }
+        self.logs[at] = entered;
+        let given = count.0 as u64;
+        Stepped {
+            answer: Answer::Accepted(given),
+            machine: self,
+        }
+    }
+
+    // RELEASE: the lock is free, with one release more and the thread's clock, and the thread's own number grows.
+    pub fn release(mut self, thread: u64, lock: u64) -> Stepped
+        requires { ⌜ Reached self ⌝ }
+        ensures { λ r. ⌜ r ≡ stepOf self 6 thread lock 0 ⌝ }
+    {
+        if 3 < thread {
+            return Stepped {
+                answer: Answer::NoSuchThread,
+                machine: self,
+            };
+        }
+        if 7 < lock {
+            return Stepped {
+                answer: Answer::NoSuchPlace,
+                machine: self,
+            };
+        }
+        let at = thread as usize;
+        let place = lock as usize;
+        let log = self.logs[at];
+        let releasable = release_answer(log, lock as u8);
+        if answer::number(releasable) != 0 {
+            return Stepped {
+                answer: releasable,
+                machine: self,
+            };
+        }
+        let ended = log.end_release();
+        let held = self.locks[place];
+        let known = self.clocks[at];
+        let freed = held.freed();
+        let raised = known.raise(at);
+        self.logs[at] = ended;
+        self.locks[place] = freed;
+        self.lock_clocks[place] = known;
+        self.clocks[at] = raised;
+        Stepped {
+            answer: Answer::Accepted(0),
+            machine: self,
+        }
+    }
+
     // FLUSH: the thread has a flush of the line pending.
     pub fn flush(mut self, thread: u64, line: u64) -> Stepped
         requires { ⌜ Reached self ⌝ }
@@ -252,26 +928,6 @@ impl Machine {
         let cache = self.cache;
         let flushed = cache.flush(thread as usize, line as usize);
         self.cache = flushed;
-        Stepped {
-            answer: Answer::Accepted(0),
-            machine: self,
-        }
-    }
-
-    // EVICT: the line's cached content is persisted.
-    pub fn evict(mut self, line: u64) -> Stepped
-        requires { ⌜ Reached self ⌝ }
-        ensures { λ r. ⌜ r ≡ stepOf self 11 0 line 0 ⌝ }
-    {
-        if 15 < line {
-            return Stepped {
-                answer: Answer::NoSuchPlace,
-                machine: self,
-            };
-        }
-        let cache = self.cache;
-        let evicted = cache.evict(line as usize);
-        self.cache = evicted;
         Stepped {
             answer: Answer::Accepted(0),
             machine: self,
@@ -323,6 +979,60 @@ impl Machine {
         }
     }
 
+    // PRUNE: the head moves past the thread's oldest finished region, and the answer is how many entries that has.
+    pub fn prune(mut self, thread: u64) -> Stepped
+        requires { ⌜ Reached self ⌝ }
+        ensures { λ r. ⌜ r ≡ stepOf self 10 thread 0 0 ⌝ }
+    {
+        if 3 < thread {
+            return Stepped {
+                answer: Answer::NoSuchThread,
+                machine: self,
+            };
+        }
+        let at = thread as usize;
+        let log = self.logs[at];
+        let cache = self.cache;
+        let locks = self.locks;
+        let prunable = prune_answer(log, cache, locks);
+        if answer::number(prunable) != 0 {
+            return Stepped {
+                answer: prunable,
+                machine: self,
+            };
+        }
+        let region = log.oldest_region();
+        let last = log.live_event(region - 1);
+        let pruned = pruned_log(log, region);
+        let counted = pruned_locks(locks, last);
+        self.logs[at] = pruned;
+        self.locks = counted;
+        Stepped {
+            answer: Answer::Accepted(region as u64),
+            machine: self,
+        }
+    }
+
+    // EVICT: the line's cached content is persisted.
+    pub fn evict(mut self, line: u64) -> Stepped
+        requires { ⌜ Reached self ⌝ }
+        ensures { λ r. ⌜ r ≡ stepOf self 11 0 line 0 ⌝ }
+    {
+        if 15 < line {
+            return Stepped {
+                answer: Answer::NoSuchPlace,
+                machine: self,
+            };
+        }
+        let cache = self.cache;
+        let evicted = cache.evict(line as usize);
+        self.cache = evicted;
+        Stepped {
+            answer: Answer::Accepted(0),
+            machine: self,
+        }
+    }
+
     // EVICTLOG: the entry in the slot becomes persisted.
     pub fn evict_log(mut self, thread: u64, slot: u64) -> Stepped
         requires { ⌜ Reached self ⌝ }
@@ -358,90 +1068,50 @@ impl Machine {
         }
     }
 
-    // LOAD: answers the cell's cached content, where its last LOG happens before.
-    pub fn load(mut self, thread: u64, cell: u64) -> Stepped
+    // A step of any kind, with any four words: the input's tests, then the method of the kind. Of the kinds, 12 is left for the last arm.
+    pub fn step(self, kind: u64, thread: u64, place: u64, value: u64) -> Stepped
         requires { ⌜ Reached self ⌝ }
-        ensures { λ r. ⌜ r ≡ stepOf self 1 thread cell 0 ⌝ }
+        ensures { λ r. ⌜ r ≡ stepOf self kind thread place value ⌝ }
     {
-        if 3 < thread {
+        let asked = input_answer(kind, thread, place, value);
+        if answer::number(asked) != 0 {
             return Stepped {
-                answer: Answer::NoSuchThread,
+                answer: asked,
                 machine: self,
             };
         }
-        if 127 < cell {
-            return Stepped {
-                answer: Answer::NoSuchPlace,
-                machine: self,
-            };
-        }
-        let at = thread as usize;
-        let place = cell as usize;
-        let cache = self.cache;
-        let clock = self.clocks[at];
-        let accesses = self.accesses;
-        if accesses.load_races(clock, place) {
-            return Stepped {
-                answer: Answer::Race,
-                machine: self,
-            };
-        }
-        let found = cache.load(place);
-        let stamp = clock.at(at);
-        let loaded = accesses.loaded(at, place, stamp);
-        self.accesses = loaded;
-        Stepped {
-            answer: Answer::Accepted(found),
-            machine: self,
+        match kind {
+            1 => self.load(thread, place),
+            2 => self.log(thread, place),
+            3 => self.store(thread, place, value),
+            4 => self.acquire(thread, place),
+            5 => self.log_release(thread, place),
+            6 => self.release(thread, place),
+            7 => self.flush(thread, place),
+            8 => self.flush_log(thread),
+            9 => self.fence(thread),
+            10 => self.prune(thread),
+            11 => self.evict(place),
+            _ => self.evict_log(thread, place),
         }
     }
 
-    // STORE: the cell's cached content is the value, where the current region has a durable entry of it.
-    pub fn store(mut self, thread: u64, cell: u64, value: u64) -> Stepped
+    // The cut: each cell, head and slot's persisted content, or 21 where the lent image is not of 1,156 words, which leaves it as it was.
+    pub fn cut(self, image: &mut [u64]) -> Answer
         requires { ⌜ Reached self ⌝ }
-        ensures { λ r. ⌜ r ≡ stepOf self 3 thread cell value ⌝ }
+        ensures { λ r. ⌜ record { answer = r; buffer = now (image .exit) } ≡ cutOf self (now (image .entry)) ⌝ }
     {
-        if 3 < thread {
-            return Stepped {
-                answer: Answer::NoSuchThread,
-                machine: self,
-            };
-        }
-        if 127 < cell {
-            return Stepped {
-                answer: Answer::NoSuchPlace,
-                machine: self,
-            };
-        }
-        let at = thread as usize;
-        let place = cell as usize;
-        let log = self.logs[at];
-        let tail = log.tail();
-        if tail.is_releasing() {
-            return Stepped {
-                answer: Answer::Releasing,
-                machine: self,
-            };
-        }
-        let found = log.logged(place);
-        if !is_found(found) {
-            return Stepped {
-                answer: Answer::NotLogged,
-                machine: self,
-            };
-        }
-        if is_undurable(log, found) {
-            return Stepped {
-                answer: Answer::EntryNotDurable,
-                machine: self,
-            };
+        if image.len() != 1156 {
+            return Answer::WrongLength;
         }
         let cache = self.cache;
-        let stored = cache.store(place, value);
-        self.cache = stored;
-        Stepped {
-            answer: Answer::Accepted(0),
-            machine: self,
+        cache.persist_into(image);
+        let mut thread = 0;
+        while thread < 4 {
+            let log = self.logs[thread];
+            write_log(log, thread, image);
+            thread += 1;
         }
+        Answer::Accepted(0)
     }
 }

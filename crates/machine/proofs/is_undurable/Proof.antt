@@ -4,8 +4,8 @@ use Rattle.machine.specs.Refusals.{isUndurableFound}
 use borrow.Author.Needs.{needs}
 use Rattle.machine.proofs.is_undurable.Statement.{statement}
 use Rattle.machine.proofs.is_undurable.Tie as tie
-use Rattle.log.proofs.entries.Log.tail.Reads as tail-reads
-use Rattle.log.proofs.ring.Tail.durable_lsn.Reads as durable-lsn-reads
+use Rattle.log.proofs.Log.tail.Reads as tail-reads
+use Rattle.ring.proofs.Tail.durable_lsn.Reads as durable-lsn-reads
 
 tail-requires : tie.Need-tail-requires
 tail-requires c κs = search needs

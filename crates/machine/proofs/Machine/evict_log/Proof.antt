@@ -15,7 +15,7 @@ use borrow.Author.Needs.{needs}
 use Rattle.machine.proofs.Machine.evict_log.Statement.{statement}
 use Rattle.machine.proofs.Machine.evict_log.Tie as tie
 use Rattle.answer.proofs.number.Reads as number-reads
-use Rattle.log.proofs.entries.Log.evict_slot.Reads as evict-slot-reads
+use Rattle.log.proofs.Log.evict_slot.Reads as evict-slot-reads
 
 returns : tie.Need-returns
 unfolding kindOf

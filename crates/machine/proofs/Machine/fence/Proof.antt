@@ -10,7 +10,7 @@ use borrow.Author.Needs.{needs}
 use Rattle.machine.proofs.Machine.fence.Statement.{statement}
 use Rattle.machine.proofs.Machine.fence.Tie as tie
 use Rattle.cache.proofs.Cache.fence.Reads as Cache-fence-reads
-use Rattle.log.proofs.entries.Log.fence.Reads as entries-Log-fence-reads
+use Rattle.log.proofs.Log.fence.Reads as Log-fence-reads
 
 returns : tie.Need-returns
 unfolding kindOf

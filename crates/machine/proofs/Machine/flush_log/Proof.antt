@@ -9,7 +9,7 @@ use Rattle.machine.proofs.Tested.{no-thread, in-range}
 use borrow.Author.Needs.{needs}
 use Rattle.machine.proofs.Machine.flush_log.Statement.{statement}
 use Rattle.machine.proofs.Machine.flush_log.Tie as tie
-use Rattle.log.proofs.entries.Log.flush.Reads as flush-reads
+use Rattle.log.proofs.Log.flush.Reads as flush-reads
 
 returns : tie.Need-returns
 unfolding kindOf

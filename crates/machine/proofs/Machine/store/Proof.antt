@@ -1,39 +1,29 @@
 -- `machine::Machine::store` meets its contract.
-use mathlib.Core.Path.{_≡_, refl, sym, _∙_}
+use mathlib.Core.Path.{refl, sym, _∙_}
+use mathlib.Core.List.{[]}
 use native.Mathlib.Omega.{arith}
-use borrow.Author.Tests.{lt-ltb, le-ltb, not-true, not-false}
+use borrow.Author.Tests.{lt-ltb, le-ltb}
 use Rattle.answer.specs.Refusals.{unless}
-use Rattle.machine.specs.Steps.{refused, stepOf}
-use Rattle.machine.proofs.Tested.{no-thread, no-place, in-range}
 use Rattle.machine.specs.Kinds.{STORE, kindOf}
 use Rattle.machine.specs.Effects.{effect, storeEffect}
-use Rattle.machine.specs.Refusals.{stateTests, storeTests, isFound, isUndurableFound}
 use Rattle.machine.specs.Holds.{logOf}
-use Rattle.log.specs.Ring.{isReleasing}
-use Rattle.log.specs.Regions.{loggedOf}
+use Rattle.machine.specs.Refusals.{stateTests, storeTests, storeTestsOn}
+use Rattle.machine.specs.Steps.{stepOf}
+use Rattle.machine.proofs.Tested.{Asks, no-thread, no-place, in-range, asked-refusal, asked-on}
 use borrow.Author.Needs.{needs}
 use Rattle.machine.proofs.Machine.store.Statement.{statement}
 use Rattle.machine.proofs.Machine.store.Tie as tie
+use Rattle.answer.proofs.number.Reads as number-reads
 use Rattle.cache.proofs.Cache.store.Reads as store-reads
-use Rattle.log.proofs.entries.Log.logged.Reads as logged-reads
-use Rattle.log.proofs.entries.Log.tail.Reads as tail-reads
-use Rattle.log.proofs.ring.Tail.is_releasing.Reads as is-releasing-reads
-use Rattle.machine.proofs.is_found.Reads as is-found-reads
-use Rattle.machine.proofs.is_undurable.Reads as is-undurable-reads
+use Rattle.machine.proofs.store_answer.Reads as store-answer-reads
 
--- with the fields in range, the state's tests decide
-ranged : (c : tie.Else2) → let a = c .before .before .args in stepOf (a .t1) 3 (a .thread) (a .cell) (a .value) ≡ unless (refused (a .t1)) (stateTests (a .t1) STORE (a .thread) (a .cell)) (effect (a .t1) STORE (a .thread) (a .cell) (a .value))
-unfolding kindOf
-ranged c = let a = c .before .before .args in in-range (a .t1) 3 STORE refl (a .thread) (a .cell) (a .value) (omega arith) (rw (lt-ltb (a .cell) 128 (omega arith))) refl
-
-closes : (c : tie.After-is-releasing) → isReleasing (logOf (c .before .before .before .before .before .args .t1) (c .before .before .before .before .before .args .thread) .tail .releasing) ≡ c .is-releasing .result
-closes c = sym (c .is-releasing .ensures ∙ rw (c .before .tail .ensures))
-
-founds : (c : tie.After-is-found) → isFound (loggedOf (logOf (c .before .before .before .before .before .before .before .before .args .t1) (c .before .before .before .before .before .before .before .before .args .thread)) (c .before .before .before .before .before .before .before .before .args .cell)) ≡ c .is-found .result
-founds c = sym (c .is-found .ensures ∙ rw (c .before .logged .ensures))
-
-undurable : (c : tie.After-is-undurable) → (let a = c .before .before .before .before .before .before .before .before .before .before .args in isUndurableFound (logOf (a .t1) (a .thread)) (loggedOf (logOf (a .t1) (a .thread)) (a .cell))) ≡ c .is-undurable .result
-undurable c = sym (c .is-undurable .ensures ∙ rw (c .before .before .before .logged .ensures))
+-- with the fields in range, STORE's tests decide
+asks : (c : tie.Else2) → let a = c .before .before .args in Asks (a .t1) (stepOf (a .t1) 3 (a .thread) (a .cell) (a .value)) (effect (a .t1) STORE (a .thread) (a .cell) (a .value)) (storeTestsOn (logOf (a .t1) (a .thread)) (a .cell)) []
+unfolding kindOf stateTests storeTests
+asks c = let a = c .before .before .args in record {
+  refusals = (refl, (refl, (refl, tt)));
+  decides = in-range (a .t1) 3 STORE refl (a .thread) (a .cell) (a .value) (omega arith) (rw (lt-ltb (a .cell) 128 (omega arith))) refl;
+}
 
 returns : tie.Need-returns
 unfolding kindOf
@@ -49,39 +39,23 @@ mul-log c = search needs
 element-copy-out-log : tie.Need-element-copy-out-log
 element-copy-out-log c = search needs
 
-tail-requires : tie.Need-tail-requires
-tail-requires c κs = search needs
+store-answer-requires : tie.Need-store-answer-requires
+store-answer-requires c κs = search needs
 
-is-releasing-requires : tie.Need-is-releasing-requires
-is-releasing-requires c κs = search needs
+number-requires : tie.Need-number-requires
+number-requires c κs = search needs
 
 returns-3 : tie.Need-returns-3
-unfolding stateTests storeTests unless
-returns-3 c = sym (ranged (c .before .before .before .before) ∙ rw (closes (c .before) ∙ c .if3 .taken))
-
-logged-requires : tie.Need-logged-requires
-logged-requires c κs = search needs
-
-is-found-requires : tie.Need-is-found-requires
-is-found-requires c κs = search needs
-
-returns-4 : tie.Need-returns-4
-unfolding stateTests storeTests unless
-returns-4 c = sym (ranged (c .before .before .before .before .before .before .before) ∙ rw (closes (c .before .before .before .before) ∙ c .before .before .before .if3 .left, founds (c .before) ∙ not-true _ (c .if4 .taken)))
-
-is-undurable-requires : tie.Need-is-undurable-requires
-is-undurable-requires c κs = search needs
-
-returns-5 : tie.Need-returns-5
-unfolding stateTests storeTests unless
-returns-5 c = sym (ranged (c .before .before .before .before .before .before .before .before .before) ∙ rw (closes (c .before .before .before .before .before .before) ∙ c .before .before .before .before .before .if3 .left, founds (c .before .before .before) ∙ not-false _ (c .before .before .if4 .left), undurable (c .before) ∙ c .if5 .taken))
+returns-3 c = asked-refusal (asks (c .before .before .before .before)) (c .before .before .store-answer .ensures) (c .before .number .ensures) (c .if3 .taken)
 
 store-requires : tie.Need-store-requires
 store-requires c κs = search needs
 
-returns-6 : tie.Need-returns-6
-unfolding stateTests storeTests unless effect storeEffect
-returns-6 c = sym (ranged (c .before .before .before .before .before .before .before .before .before .before .before) ∙ rw (closes (c .before .before .before .before .before .before .before .before) ∙ c .before .before .before .before .before .before .before .if3 .left, founds (c .before .before .before .before .before) ∙ not-false _ (c .before .before .before .before .if4 .left), undurable (c .before .before .before) ∙ c .before .before .if5 .left, c .store .ensures))
+returns-4 : tie.Need-returns-4
+unfolding unless effect storeEffect
+returns-4 c =
+    let passed = c .before .before in
+    sym (asked-on (asks (passed .before .before .before .before)) (passed .before .before .store-answer .ensures) (passed .before .number .ensures) (passed .if3 .left) ∙ rw (c .store .ensures))
 
 pub store-spec : {M : Type 1} → statement M
 store-spec =
@@ -91,13 +65,8 @@ store-spec =
     returns-2
     mul-log
     element-copy-out-log
-    tail-requires
-    is-releasing-requires
+    store-answer-requires
+    number-requires
     returns-3
-    logged-requires
-    is-found-requires
-    returns-4
-    is-undurable-requires
-    returns-5
     store-requires
-    returns-6)
+    returns-4)

@@ -1,0 +1,44 @@
+-- `corners::judged_alike` is safe and ends.
+use Prim.Native.Nat.{_-_, _*_, _≤_, _<_}
+use native.Mathlib.Omega.{arith}
+use mathlib.Core.Path.{_≡_}
+use lib.ListN.{length, length-take, length-set}
+use borrow.Author.Needs.{needs}
+use Rattle.corners.proofs.judged_alike.Statement.{statement}
+use Rattle.corners.proofs.judged_alike.Tie as tie
+use Rattle.corners.proofs.judged_alike.Reads as reads
+use Rattle.corners.proofs.judged_alike.Lts as lts
+use Rattle.model.proofs.judge.Reads as judge-reads
+
+returns : tie.Need-returns
+returns c = search needs
+
+mul-end : tie.Need-mul-end
+mul-end c = search needs
+
+slice-aggregate-judge : tie.Need-slice-aggregate-judge
+slice-aggregate-judge c = search needs
+
+slice-aggregate-judge-2 : tie.Need-slice-aggregate-judge-2
+slice-aggregate-judge-2 c = simp length-take (omega arith)
+
+judge-requires : tie.Need-judge-requires
+judge-requires c κs = search needs
+
+returns-2 : tie.Need-returns-2
+returns-2 c = search needs
+
+returns-3 : tie.Need-returns-3
+returns-3 c = search needs
+
+pub judged-alike-spec : {M : Type 1} → statement M
+judged-alike-spec =
+    tie.close
+    (tie.spec
+    returns
+    mul-end
+    slice-aggregate-judge
+    slice-aggregate-judge-2
+    judge-requires
+    returns-2
+    returns-3)

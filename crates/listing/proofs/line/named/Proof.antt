@@ -1,0 +1,20 @@
+-- `listing::line::named` meets its contract.
+use mathlib.Core.Path.{sym, _∙_}
+use borrow.Author.Needs.{needs}
+use Rattle.listing.proofs.line.named.Statement.{statement}
+use Rattle.listing.proofs.line.named.Tie as tie
+
+-- src/line.rt:56:8
+same-requires : tie.Need-same-requires
+same-requires c κs = search needs
+
+-- src/line.rt:57:9
+returns : tie.Need-returns
+returns c = rw (sym (c .before .same .ensures) ∙ c .if1 .taken)
+
+-- src/line.rt:53:1
+returns-2 : tie.Need-returns-2
+returns-2 c = rw (sym (c .before .same .ensures) ∙ c .if1 .left)
+
+pub named-spec : {M : Type 1} → statement M
+named-spec = tie.close (tie.spec same-requires returns returns-2)

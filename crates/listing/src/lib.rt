@@ -1,0 +1,83 @@
+// The listing program's text: what a line says, what is printed, and the whole transcript as bytes from bytes.
+pub mod line;
+pub mod write;
+
+ghost use mathlib.Core.Path.{_≡_};
+ghost use Prim.Native.Nat.{_+_, _≤_};
+ghost use lib.ListN.{length};
+ghost use Rattle.listing.specs.Buffers.{written};
+ghost use Rattle.listing.specs.Printed.{cellsText};
+ghost use Rattle.machine.specs.Runs.{Reached};
+ghost use Rattle.listing.specs.Transcript.{recoveredCells, transcriptIn};
+use answer::Answer;
+use line::Line;
+use machine::Machine;
+
+// Writes each of the cells that isn't 0, where there is room for them.
+fn write_cells(output: &mut [u8], place: usize, cells: &[u64]) -> usize
+    requires { ⌜ place + length (cellsText 0 (now cells)) ≤ length (now output) ⌝ }
+    ensures { λ r. ⌜ r ≡ place + length (cellsText 0 (now (cells .entry))) ⌝ }
+    ensures { λ _. ⌜ now (output .exit) ≡ written (now (output .entry)) place (cellsText 0 (now (cells .entry))) ⌝ }
+{
+    let mut end = place;
+    let mut i = 0;
+    while i < cells.len() {
+        let content = cells[i];
+        if content != 0 {
+            end = write::write_cell(output, end, i as u64, content);
+        }
+        i += 1;
+    }
+    end
+}
+
+// Cuts the machine, recovers its image and writes the cells.
+fn write_recovered(output: &mut [u8], place: usize, machine: Machine) -> usize
+    requires { ⌜ Reached machine ⌝ }
+    requires { ⌜ place + length (cellsText 0 (recoveredCells machine)) ≤ length (now output) ⌝ }
+    ensures { λ r. ⌜ r ≡ place + length (cellsText 0 (recoveredCells machine)) ⌝ }
+    ensures { λ _. ⌜ now (output .exit) ≡ written (now (output .entry)) place (cellsText 0 (recoveredCells machine)) ⌝ }
+{
+    let mut image = [0u64; 1156];
+    let mut cells = [0u64; 128];
+    machine.cut(&mut image);
+    recovery::recover(&image, &mut cells);
+    write_cells(output, place, &cells)
+}
+
+// Writes the transcript of the input, and answers how many bytes it takes.
+pub fn transcript(input: &[u8], output: &mut [u8]) -> usize
+    ensures { λ r. ⌜ record { count = r; buffer = now (output .exit) } ≡ transcriptIn (now (input .entry)) (now (output .entry)) ⌝ }
+{
+    if output.len() < 163840 {
+        return 0;
+    }
+    if 65536 < input.len() {
+        return write::write_result(output, 0, 1, Answer::Unreadable);
+    }
+    let zeros = [0u64; 128];
+    let started = Machine::start(&zeros);
+    let mut machine = started.machine;
+    let mut number: u64 = 1;
+    let mut from = 0;
+    let mut place = 0;
+    while from < input.len() {
+        let rest = &input[from..];
+        let Line::Step {
+            kind,
+            thread,
+            place: at,
+            value,
+        } = line::first_line(rest)
+        else {
+            return write::write_result(output, place, number, Answer::Unreadable);
+        };
+        let stepped = machine.step(kind, thread, at, value);
+        let answer = stepped.answer;
+        machine = stepped.machine;
+        place = write::write_result(output, place, number, answer);
+        number += 1;
+        from += line::line_length(rest);
+    }
+    write_recovered(output, place, machine)
+}

@@ -1,0 +1,84 @@
+-- Each log of a machine that the start call and steps lead to has a whole stretch of persisted words.
+use Prim.Native.Nat.{ℕ, _<_}
+use mathlib.Core.Path.{_≡_, refl, sym, ap, _∙_, subst}
+use mathlib.Core.Bool.{Bool, true, false, cond}
+use mathlib.Core.List.{List, map}
+use lib.ListN.{length, getD, replicate, getD-replicate, length-map, List·getD-map}
+use lib.Seq.{map-set-same}
+use lib.Dec.{eqb}
+use Rattle.answer.specs.declared.Answer.the-variants.{Accepted, WrongLength}
+use Rattle.log.specs.Entries.{freshLog, appendOf, flushLogOf, endReleaseOf, fenceLogOf, evictSlotOf, pruneOf}
+use Rattle.log.specs.Regions.{oldestRegion}
+use Rattle.stretch.specs.Stretch.{stretchWords}
+use Rattle.log.specs.declared.Log.{Log}
+use Rattle.log.proofs.SlotLaws.{length-persistSlot, length-persistFrom}
+use Rattle.machine.specs.Effects.{loadEffect, logEffect, storeEffect, acquireEffect, logReleaseEffect, releaseEffect, flushEffect, flushLogEffect, fenceEffect, pruneEffect, evictEffect, evictLogEffect, effect}
+use Rattle.machine.specs.Holds.{threadCount, noLog, logOf, withLog, freshMachine, startOf}
+use Rattle.machine.specs.Kinds.{Kind, LOAD, LOG, STORE, ACQUIRE, LOGREL, RELEASE, FLUSH, FLUSHLOG, FENCE, PRUNE, EVICT, EVICTLOG}
+use Rattle.machine.specs.Runs.{Step, after, Reached}
+use Rattle.machine.specs.declared.Machine.{Machine}
+use Rattle.machine.specs.declared.Stepped.{Stepped}
+use Rattle.machine.proofs.StepLaws.{after-keeps}
+
+-- how many persisted words each log has
+stretchLengths : List Log → List ℕ
+stretchLengths logs = map (λ log. length (log .persisted)) logs
+
+-- each log has as many as its stretch of an image
+pub record Stretched (machine : Machine) : Type 0 where
+  whole : stretchLengths (machine .logs) ≡ replicate threadCount stretchWords
+
+-- a log that is put in place has as many as the one that stood there
+module _ (machine : Machine) (thread : ℕ) (log : Log) where
+  put-same : length (log .persisted) ≡ length (logOf machine thread .persisted) → stretchLengths (withLog machine thread log .logs) ≡ stretchLengths (machine .logs)
+  unfolding stretchLengths
+  put-same same = map-set-same (λ other. length (other .persisted)) (machine .logs) thread log noLog same
+
+effect-same : (machine : Machine) (kind : Kind) (thread place value : ℕ) → stretchLengths (effect machine kind thread place value .machine .logs) ≡ stretchLengths (machine .logs)
+unfolding effect loadEffect logEffect storeEffect acquireEffect logReleaseEffect releaseEffect flushEffect flushLogEffect fenceEffect pruneEffect evictEffect evictLogEffect appendOf flushLogOf endReleaseOf fenceLogOf evictSlotOf pruneOf
+effect-same machine LOAD thread place value = refl
+effect-same machine LOG thread place value = put-same machine thread _ refl
+effect-same machine STORE thread place value = refl
+effect-same machine ACQUIRE thread place value = put-same machine thread _ refl
+effect-same machine LOGREL thread place value = put-same machine thread _ refl
+effect-same machine RELEASE thread place value = put-same machine thread _ refl
+effect-same machine FLUSH thread place value = refl
+effect-same machine FLUSHLOG thread place value = put-same machine thread _ refl
+effect-same machine FENCE thread place value = put-same machine thread (fenceLogOf (logOf machine thread)) (length-persistFrom _ _ _ _)
+effect-same machine PRUNE thread place value = put-same machine thread (pruneOf (logOf machine thread) (oldestRegion (logOf machine thread))) refl
+effect-same machine EVICT thread place value = refl
+effect-same machine EVICTLOG thread place value = put-same machine thread (evictSlotOf (logOf machine thread) place) (length-persistSlot _ _ _)
+
+fresh-stretched : (cells : List ℕ) → Stretched (freshMachine cells)
+unfolding freshMachine freshLog stretchLengths
+fresh-stretched cells = record { whole = refl }
+
+start-stretched : (words : List ℕ) → Stretched (startOf words .machine)
+unfolding startOf
+start-stretched words = by-length (eqb (length words) 128)
+  where
+    by-length : (isLength : Bool) → Stretched (cond {A = Stepped} isLength (record { answer = Accepted 0; machine = freshMachine words }) (record { answer = WrongLength; machine = freshMachine (replicate 128 0) }) .machine)
+    by-length true = fresh-stretched words
+    by-length false = fresh-stretched (replicate 128 0)
+
+-- every machine that the start call and steps lead to
+pub reached-stretched : (machine : Machine) → Reached machine → Stretched machine
+reached-stretched machine reached =
+    subst (λ (m : Machine). Stretched m) (sym (reached .leads))
+    (after-keeps Stretched
+    (λ machine stretched kind thread place value fails. record { whole = effect-same machine kind thread place value ∙ stretched .whole })
+    (startOf (reached .words) .machine)
+    (start-stretched (reached .words))
+    (reached .steps))
+
+pub all-logs : (machine : Machine) → Stretched machine → length (machine .logs) ≡ threadCount
+unfolding stretchLengths
+all-logs machine stretched = sym (length-map (machine .logs) (λ log. length (log .persisted))) ∙ ap length (stretched .whole)
+
+-- a thread's log has all of its words
+pub whole-stretch : (machine : Machine) → Stretched machine → (thread : ℕ) → thread < threadCount → length (logOf machine thread .persisted) ≡ stretchWords
+unfolding stretchLengths
+whole-stretch machine stretched thread below =
+    sym (List·getD-map (λ log. length (log .persisted)) (machine .logs) thread noLog) ∙
+    ap (λ (lengths : List ℕ). getD lengths thread 0) (stretched .whole) ∙
+    getD-replicate threadCount thread stretchWords 0 below

@@ -1,0 +1,2 @@
+-- What the model promises, and what it leaves open.
+pub mod Promises

@@ -1,0 +1,41 @@
+-- The logs of an image, as they are read: a head and a stretch for each thread, and how many entries are present.
+use Prim.Native.Nat.{ℕ, _+_, _<_}
+use mathlib.Core.Path.{_≡_, sym, ap, ap₂, _∙_}
+use mathlib.Core.List.{List, []}
+use lib.ListN.{length, getD, length-map}
+use Rattle.answer.specs.Lists.{tab}
+use Rattle.answer.proofs.ListLaws.{length-tab, getD-tab, map-tab}
+use Rattle.stretch.specs.Stretch.{headsAt, stretchOf, presentOf}
+use Rattle.recovery.specs.Undo.{threadCount, StoredLog, storedLogs, leftOf, undoStart}
+use Rattle.recovery.specs.Reading.{logOf, logIn}
+
+-- how many entries are present in a log
+abbrev pub presentIn : StoredLog → ℕ
+presentIn log = presentOf (log .stretch) (log .head)
+
+module _ (image : List ℕ) where
+  -- a thread's stretch, from its head on
+  abbrev logAt : ℕ → StoredLog
+  logAt thread = logOf (stretchOf image thread) (getD image (headsAt + thread) 0)
+
+  -- each thread has a count
+  pub start-long : length (undoStart image .left) ≡ threadCount
+  unfolding undoStart storedLogs
+  start-long = length-map (tab threadCount logAt) presentIn ∙ length-tab threadCount logAt
+
+  module _ (thread : ℕ) (inside : thread < threadCount) where
+    pub log-in : logIn image thread ≡ logAt thread
+    unfolding storedLogs
+    log-in = getD-tab threadCount logAt thread (logOf [] 0) inside
+
+    -- what is read is the thread's log
+    pub log-read : {stretch : List ℕ} {head : ℕ} → stretch ≡ stretchOf image thread → head ≡ logIn image thread .head → logOf stretch head ≡ logIn image thread
+    log-read {stretch} {head} stretchIs headIs = ap₂ logOf stretchIs (headIs ∙ rw log-in) ∙ sym log-in
+
+    -- at first every present entry is left
+    pub start-left : leftOf (undoStart image .left) thread ≡ presentIn (logIn image thread)
+    unfolding undoStart storedLogs
+    start-left =
+        ap (λ (counts : List ℕ). getD counts thread 0) (map-tab presentIn threadCount logAt)
+        ∙ getD-tab threadCount (λ t. presentIn (logAt t)) thread 0 inside
+        ∙ ap presentIn (sym log-in)

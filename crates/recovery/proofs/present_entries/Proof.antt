@@ -1,0 +1,68 @@
+-- `recovery::present_entries` meets its contract. The loop's invariant: the counts before `thread` are those of the definition.
+use Prim.Native.Nat.{_-_}
+use mathlib.Core.Path.{sym, ap, _∙_}
+use borrow.Author.Needs.{needs}
+use Rattle.recovery.specs.Undo.{threadCount, undoStart}
+use Rattle.recovery.proofs.LogsRead.{presentIn, start-long, start-left, log-read}
+use Rattle.recovery.proofs.Writes.{Written, write-starts, write-on, write-ends}
+use Rattle.recovery.proofs.present_entries.Statement.{statement}
+use Rattle.recovery.proofs.present_entries.Tie as tie
+
+abbrev Inv-loop : tie.InvT-loop
+Inv-loop image left₀ thread₀ left thread = Written (undoStart image .left) left₀ left thread
+
+abbrev μ-loop : tie.MeasureT-loop
+μ-loop image left₀ thread₀ left thread = threadCount - thread
+
+loop-holds : tie.Need-loop-holds Inv-loop μ-loop
+loop-holds c = write-starts (start-long (c .before .args .image .now))
+
+stretch-requires : tie.Need-stretch-requires Inv-loop μ-loop
+stretch-requires c κs = search needs
+
+head-of-requires : tie.Need-head-of-requires Inv-loop μ-loop
+head-of-requires c κs = search needs
+
+present-requires : tie.Need-present-requires Inv-loop μ-loop
+present-requires c κs = search needs
+
+mul-left : tie.Need-mul-left Inv-loop μ-loop
+mul-left c = search needs
+
+array-write-left : tie.Need-array-write-left Inv-loop μ-loop
+array-write-left c = search needs
+
+add-thread : tie.Need-add-thread Inv-loop μ-loop
+add-thread c = search needs
+
+loop-less : tie.Need-loop-less Inv-loop μ-loop
+loop-less c = search needs
+
+loop-again : tie.Need-loop-again Inv-loop μ-loop
+loop-again c =
+    let l = c .before .before .before .before in
+    let a = l .before .before .args in
+    write-on (l .loop .inv) (search needs)
+    (start-left (a .image .now) (l .loop .thread) (search needs)
+    ∙ ap presentIn (sym (log-read (a .image .now) (l .loop .thread) (search needs) (c .before .before .stretch .ensures) (c .before .head-of .ensures)))
+    ∙ sym (c .present .ensures))
+
+returns : tie.Need-returns Inv-loop μ-loop
+returns c = write-ends (c .before .loop .inv) (search needs)
+
+pub present-entries-spec : {M : Type 1} → statement M
+present-entries-spec =
+    tie.close
+    (tie.spec
+    Inv-loop
+    μ-loop
+    loop-holds
+    stretch-requires
+    head-of-requires
+    present-requires
+    mul-left
+    array-write-left
+    add-thread
+    loop-less
+    loop-again
+    returns)
