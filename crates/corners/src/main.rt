@@ -12,6 +12,14 @@ const STEPS: usize = 200;
 // The generated listings.
 const LISTINGS: u64 = 200;
 
+// A step's four words.
+struct Step {
+    kind: u64,
+    thread: u64,
+    place: u64,
+    value: u64,
+}
+
 // The two lists are the same.
 fn same(one: &[u64], other: &[u64]) -> bool {
     if one.len() != other.len() {
@@ -147,41 +155,8 @@ fn next(seed: u64) -> u64 {
 
 // A kind of step, those that make a region more often than others.
 fn kind_of(chance: u64) -> u64 {
-    let kinds = [
-        1u64,
-        2,
-        2,
-        2,
-        2,
-        3,
-        3,
-        3,
-        3,
-        4,
-        4,
-        4,
-        5,
-        5,
-        5,
-        6,
-        6,
-        6,
-        7,
-        7,
-        8,
-        8,
-        8,
-        9,
-        9,
-        9,
-        9,
-        10,
-        10,
-        10,
-        11,
-        12,
-    ];
-    let at = (chance % 32) as usize;
+    let kinds = [1u64, 2, 2, 2, 3, 3, 3, 4, 5, 6, 7, 8, 9, 10, 11, 12];
+    let at = (chance % 16) as usize;
     kinds[at]
 }
 
@@ -216,6 +191,86 @@ fn value_of(kind: u64, chance: u64) -> u64 {
     0
 }
 
+// A step of any kind.
+fn any_step(chance: u64) -> Step {
+    let kind = kind_of(chance / 7);
+    let mut thread = chance / 11 % 4;
+    if kind == 11 {
+        thread = 0;
+    }
+    let second = next(chance);
+    let third = next(second);
+    Step {
+        kind,
+        thread,
+        place: place_of(kind, second / 13),
+        value: value_of(kind, third / 5),
+    }
+}
+
+// The kinds of a region's steps from its ACQUIRE to its PRUNE, over and over.
+fn region_kind(stage: usize) -> u64 {
+    let kinds = [4u64, 2, 8, 9, 3, 5, 8, 9, 6, 7, 9, 10];
+    kinds[stage % 12]
+}
+
+// The place of such a step of a thread: each region has the next cell of four, with its line, and the next lock of two.
+fn region_place(kind: u64, thread: usize, stage: usize) -> u64 {
+    let region = thread % 4 + stage / 12;
+    if kind < 4 {
+        return (region % 2 * 8 + region / 2 % 2) as u64;
+    }
+    if kind < 8 {
+        return (region % 2) as u64;
+    }
+    0
+}
+
+// A thread's next step of its regions.
+fn region_step(thread: usize, stage: usize, chance: u64) -> Step {
+    let kind = region_kind(stage);
+    let mut value = 0;
+    if kind == 3 {
+        value = chance % 1000;
+    }
+    Step {
+        kind,
+        thread: thread as u64,
+        place: region_place(kind, thread, stage),
+        value,
+    }
+}
+
+// The thread whose turn it is in a generated listing: each takes a whole region, three steps or one step in a row, by the listing's number.
+fn thread_at(listing: u64, done: usize) -> usize {
+    if listing % 3 == 0 {
+        return done / 12 % 4;
+    }
+    if listing % 3 == 1 {
+        return done / 3 % 4;
+    }
+    done % 4
+}
+
+// How many turns that thread had before.
+fn stage_at(listing: u64, done: usize) -> usize {
+    if listing % 3 == 0 {
+        return done / 48 * 12 + done % 12;
+    }
+    if listing % 3 == 1 {
+        return done / 12 * 3 + done % 3;
+    }
+    done / 4
+}
+
+// The next step of a generated listing: of any kind now and then, else of the regions of the thread whose turn it is.
+fn step_at(listing: u64, done: usize, chance: u64) -> Step {
+    if chance / 3 % 8 == 0 {
+        return any_step(chance);
+    }
+    region_step(thread_at(listing, done), stage_at(listing, done), chance)
+}
+
 // A listing that is generated from a number.
 fn generated(listing: u64) -> [u64; 800]
     ensures { λ r. ⌜ 800 ≡ length r ⌝ }
@@ -224,18 +279,16 @@ fn generated(listing: u64) -> [u64; 800]
     let mut chance = next(listing % 1000000 + 1);
     let mut done: usize = 0;
     while done < STEPS {
-        let kind = kind_of(chance / 7);
         chance = next(chance);
-        let mut thread = chance / 11 % 4;
-        if kind == 11 {
-            thread = 0;
-        }
-        chance = next(chance);
-        let place = place_of(kind, chance / 13);
-        chance = next(chance);
-        let value = value_of(kind, chance / 5);
-        chance = next(chance);
-        put(&mut steps, done, kind, thread, place, value);
+        let step = step_at(listing, done, chance);
+        put(
+            &mut steps,
+            done,
+            step.kind,
+            step.thread,
+            step.place,
+            step.value,
+        );
         done += 1;
     }
     steps

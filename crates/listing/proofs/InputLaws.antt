@@ -10,14 +10,14 @@ use native.Mathlib.Omega.{arith}
 use lib.ListN.{length, take, drop, drop-of-length-le, length-append, length-take, length-drop}
 use lib.Dec.{eqb}
 use Rattle.bytes.specs.Bytes.{indexOf, indexAfter}
-use Rattle.listing.specs.Text.{ascii, sameText}
-use Rattle.listing.specs.Lines.{space, newline, before, after, names, kindFrom, kindNamed, numberIn, afterKey, stepLine, lineOf, firstLine, unended, linesFrom, linesOf}
-use Rattle.listing.specs.declared.line.Field.{Field}
-use Rattle.listing.specs.declared.line.Field.the-variants.{Number, Nothing}
-use Rattle.listing.specs.declared.line.Line.{Line}
-use Rattle.listing.specs.declared.line.Line.the-variants.{Step, Unreadable}
-use Rattle.listing.proofs.TextLaws.{same-eq}
-use Rattle.listing.proofs.LineLaws.{first-ended, first-unended}
+use Rattle.line.specs.Text.{ascii, sameText}
+use Rattle.line.specs.Lines.{space, newline, before, after, names, kindFrom, kindNamed, numberIn, afterKey, stepLine, lineOf, firstLine, unended, linesFrom, linesOf}
+use Rattle.line.specs.declared.Field.{Field}
+use Rattle.line.specs.declared.Field.the-variants.{Number, Nothing}
+use Rattle.line.specs.declared.Line.{Line}
+use Rattle.line.specs.declared.Line.the-variants.{Step, Unreadable}
+use Rattle.line.proofs.TextLaws.{same-eq}
+use Rattle.line.proofs.LineLaws.{first-ended, first-unended}
 
 -- a line that is ended, of which these bytes are passed
 lines-ended : (line input : List ℕ) → indexOf newline input < length input

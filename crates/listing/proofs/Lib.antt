@@ -1,9 +1,4 @@
--- Laws of texts and lines that the proofs of the functions cite.
-pub mod TextLaws
-pub mod LineLaws
-pub mod DecimalLaws
+-- Laws of the lines of an input, of recovered cells and of the transcript, that the proofs of the functions cite.
 pub mod InputLaws
-pub mod BufferLaws
-pub mod PrintLaws
 pub mod RecoveredLaws
 pub mod TranscriptLaws

@@ -21,17 +21,17 @@ use Rattle.machine.specs.Steps.{stepOf}
 use Rattle.machine.specs.declared.Machine.{Machine}
 use Rattle.machine.specs.declared.Stepped.{Stepped}
 use Rattle.machine.proofs.Reaching.{start-reached, step-reached}
-use Rattle.listing.specs.Text.{ascii}
-use Rattle.listing.specs.Lines.{newline, after, firstLine, linesFrom, linesOf}
-use Rattle.listing.specs.Buffers.{written, placeAfter}
-use Rattle.listing.specs.Printed.{resultText, cellText, cellsText}
+use Rattle.line.specs.Text.{ascii}
+use Rattle.line.specs.Lines.{newline, after, firstLine, linesFrom, linesOf}
+use Rattle.print.specs.Buffers.{written, placeAfter}
+use Rattle.print.specs.Printed.{resultText, cellText, cellsText}
 use Rattle.listing.specs.Transcript.{mostInput, startMachine, recoveredCells, printed, transcriptOf, transcriptRoom, Transcript, transcriptIn}
-use Rattle.listing.specs.declared.line.Line.{Line}
-use Rattle.listing.specs.declared.line.Line.the-variants.{Step, Unreadable}
-use Rattle.listing.proofs.DecimalLaws.{decimal-most}
-use Rattle.listing.proofs.LineLaws.{first-unended}
+use Rattle.line.specs.declared.Line.{Line}
+use Rattle.line.specs.declared.Line.the-variants.{Step, Unreadable}
+use Rattle.print.proofs.DecimalLaws.{decimal-most}
+use Rattle.line.proofs.LineLaws.{first-unended}
 use Rattle.listing.proofs.InputLaws.{lines-first, leading, steps-most}
-use Rattle.listing.proofs.BufferLaws.{Wrote, wrote-nothing, wrote-long, wrote-more, placed}
+use Rattle.print.proofs.BufferLaws.{Wrote, wrote-nothing, wrote-long, wrote-more, placed}
 use Rattle.listing.proofs.RecoveredLaws.{recovered-most}
 
 -- ---- the transcript's length

@@ -11,10 +11,10 @@ use Rattle.machine.specs.Image.{imageOf}
 use Rattle.machine.specs.Steps.{stepOf}
 use Rattle.machine.specs.declared.Machine.{Machine}
 use Rattle.recovery.specs.Recover.{recoverOf}
-use Rattle.listing.specs.Lines.{linesOf}
-use Rattle.listing.specs.Printed.{resultText, cellsText}
-use Rattle.listing.specs.declared.line.Line.{Line}
-use Rattle.listing.specs.declared.line.Line.the-variants.{Step, Unreadable}
+use Rattle.line.specs.Lines.{linesOf}
+use Rattle.print.specs.Printed.{resultText, cellsText}
+use Rattle.line.specs.declared.Line.{Line}
+use Rattle.line.specs.declared.Line.the-variants.{Step, Unreadable}
 
 -- "Standard input, at most 65,536 bytes"
 abbrev pub mostInput : ℕ

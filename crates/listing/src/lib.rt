@@ -1,12 +1,9 @@
-// The listing program's text: what a line says, what is printed, and the whole transcript as bytes from bytes.
-pub mod line;
-pub mod write;
-
+// The listing program's whole transcript, as bytes from bytes.
 ghost use mathlib.Core.Path.{_≡_};
 ghost use Prim.Native.Nat.{_+_, _≤_};
 ghost use lib.ListN.{length};
-ghost use Rattle.listing.specs.Buffers.{written};
-ghost use Rattle.listing.specs.Printed.{cellsText};
+ghost use Rattle.print.specs.Buffers.{written};
+ghost use Rattle.print.specs.Printed.{cellsText};
 ghost use Rattle.machine.specs.Runs.{Reached};
 ghost use Rattle.listing.specs.Transcript.{recoveredCells, transcriptIn};
 use answer::Answer;
@@ -24,7 +21,7 @@ fn write_cells(output: &mut [u8], place: usize, cells: &[u64]) -> usize
     while i < cells.len() {
         let content = cells[i];
         if content != 0 {
-            end = write::write_cell(output, end, i as u64, content);
+            end = print::write_cell(output, end, i as u64, content);
         }
         i += 1;
     }
@@ -53,7 +50,7 @@ pub fn transcript(input: &[u8], output: &mut [u8]) -> usize
         return 0;
     }
     if 65536 < input.len() {
-        return write::write_result(output, 0, 1, Answer::Unreadable);
+        return print::write_result(output, 0, 1, Answer::Unreadable);
     }
     let zeros = [0u64; 128];
     let started = Machine::start(&zeros);
@@ -70,12 +67,12 @@ pub fn transcript(input: &[u8], output: &mut [u8]) -> usize
             value,
         } = line::first_line(rest)
         else {
-            return write::write_result(output, place, number, Answer::Unreadable);
+            return print::write_result(output, place, number, Answer::Unreadable);
         };
         let stepped = machine.step(kind, thread, at, value);
         let answer = stepped.answer;
         machine = stepped.machine;
-        place = write::write_result(output, place, number, answer);
+        place = print::write_result(output, place, number, answer);
         number += 1;
         from += line::line_length(rest);
     }

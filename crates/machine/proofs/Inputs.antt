@@ -1,25 +1,26 @@
--- The input's tests by the number of the kind: what each row of the table of kinds asks, and that an accepted input's unused fields are 0.
+-- The input's tests by the number of the kind: what each row of the table of kinds asks, and what an accepted input's fields are.
 use Prim.Native.Nat.{ℕ, _+_, _≤_, _<_}
 use native.Mathlib.Decide.{decLt, ℕ-discrete}
 use native.Mathlib.Nat.{le-antisymm}
 use native.Mathlib.Omega.{arith}
 use mathlib.Core.Path.{_≡_, refl, sym, ap, _∙_}
 use mathlib.Core.Logic.{_⊎_, inl, inr, by-cases, ⊎-elim}
-use mathlib.Core.Bool.{Bool, true, false, not, _||_, or-false, true≢false}
+use mathlib.Core.Bool.{false, not, _||_, or-false}
 use mathlib.Core.Option.{Option, none, some}
 use lib.Dec.{eqb, ltb}
-use borrow.Author.Tests.{lt-ltb, le-ltb, ne-eqb, eqb-true, not-false}
+use borrow.Author.Tests.{lt-ltb, le-ltb, ltb-true, ne-eqb, not-false}
 use Rattle.answer.specs.Answer.{numberOf}
 use Rattle.answer.specs.Refusals.{unless, firstRefusal}
 use Rattle.answer.specs.declared.Answer.{Answer}
-use Rattle.answer.specs.declared.Answer.the-variants.{NoSuchKind}
-use Rattle.answer.proofs.RefusalLaws.{AllFail, stops, none-holds}
+use Rattle.answer.specs.declared.Answer.the-variants.{Accepted, NoSuchKind}
+use Rattle.answer.proofs.RefusalLaws.{AllFail, stops, goes-on, none-holds}
 use Rattle.machine.specs.Effects.{effect}
-use Rattle.machine.specs.Kinds.{Kind, Field, below, free, unused, fieldsOf, isLeftOver, kindOf, fieldTests, inputTests, inputAnswer}
+use Rattle.machine.specs.Kinds.{Kind, fieldsOf, isOver, kindOf, fieldTests, inputTests, inputAnswer}
 use Rattle.machine.specs.Refusals.{stateTests}
 use Rattle.machine.specs.Steps.{refused, stepOfKind, stepOfOption, stepOf}
 use Rattle.machine.specs.declared.Machine.{Machine}
 use Rattle.machine.proofs.StepLaws.{input-refuses}
+use Rattle.machine.proofs.Tested.{none-stops}
 
 -- a place over the last one is a place that is not below the bound
 over-last : (last place : ℕ) → ltb last place ≡ not (ltb place (last + 1))
@@ -96,21 +97,33 @@ module _ (thread place value : ℕ) where
   no-later-row number atLeast notEvict notSlot = no-row number (inr (above number 12 (above number 11 atLeast notEvict) notSlot))
 
 -- ---- the step of an input whose answer is known
+module _ (thread place value : ℕ) where
+  -- no test of an accepted input holds
+  none-over : (kind : Kind) → numberOf (firstRefusal (inputTests kind thread place value)) ≡ 0 → AllFail (inputTests kind thread place value)
+  none-over kind isAccepted = none-holds (inputTests kind thread place value) (input-refuses kind thread place value) isAccepted
 
--- what a field counts as: its word where the kind uses it, else 0
-abbrev pub usedOf : Field → ℕ → ℕ
-usedOf (below bound) word = word
-usedOf free word = word
-usedOf unused word = 0
+  thread-below : (found : Option Kind) → numberOf (inputAnswer found thread place value) ≡ 0 → thread < 4
+  unfolding inputTests
+  thread-below none isAccepted = let never : _≡_ {A = ℕ} 1 0 = isAccepted in absurd (omega arith)
+  thread-below (some kind) isAccepted = ltb-true thread 4 (not-false (ltb thread 4) (none-over kind isAccepted .0))
 
-used-is : (field : Field) (word : ℕ) → isLeftOver field word ≡ false → usedOf field word ≡ word
-used-is (below bound) word fails = refl
-used-is free word fails = refl
-used-is unused word fails = sym (eqb-true word 0 (not-false (eqb word 0) fails))
+  answer-zero : (found : Option Kind) → numberOf (inputAnswer found thread place value) ≡ 0 → inputAnswer found thread place value ≡ Accepted 0
+  answer-zero none isAccepted = let never : _≡_ {A = ℕ} 1 0 = isAccepted in absurd (omega arith)
+  answer-zero (some kind) isAccepted = none-stops (λ answer. answer) NoSuchKind (inputTests kind thread place value) (input-refuses kind thread place value) isAccepted .1
 
-or-fails : (one other : Bool) → (one || other) ≡ false → (one ≡ false) × (other ≡ false)
-or-fails true other fails = absurd (true≢false fails)
-or-fails false other fails = (refl, fails)
+  -- an accepted input gives no number
+  pub accepted-zero : (number : ℕ) → numberOf (inputAnswer (kindOf number) thread place value) ≡ 0 → inputAnswer (kindOf number) thread place value ≡ Accepted 0
+  accepted-zero number isAccepted = answer-zero (kindOf number) isAccepted
+
+  -- the thread of an accepted input is one of the four
+  pub accepted-thread : (number : ℕ) → numberOf (inputAnswer (kindOf number) thread place value) ≡ 0 → thread < 4
+  accepted-thread number isAccepted = thread-below (kindOf number) isAccepted
+
+  -- the place of an accepted input is below its kind's bound
+  pub accepted-place : (number is : ℕ) (kind : Kind) → kindOf is ≡ some kind → number ≡ is → numberOf (inputAnswer (kindOf number) thread place value) ≡ 0 → (bound : ℕ) → isOver (fieldsOf kind .place) place ≡ not (ltb place bound) → place < bound
+  unfolding inputTests
+  accepted-place number is kind isKind same isAccepted bound isBound =
+      ltb-true place bound (not-false (ltb place bound) (sym isBound ∙ none-over kind (rw (same, isKind) at isAccepted) .1 .0))
 
 module _ (machine : Machine) (thread place value : ℕ) where
   -- refused: the step is refused with the same answer
@@ -124,20 +137,12 @@ module _ (machine : Machine) (thread place value : ℕ) where
   unfolding stepOf
   input-refused number isRefused = refused-option (kindOf number) isRefused
 
-  -- accepted: the fields that the kind does not use are 0
-  unused-zero : (kind : Kind) → numberOf (firstRefusal (inputTests kind thread place value)) ≡ 0 → (usedOf (fieldsOf kind .thread) thread ≡ thread) × (usedOf (fieldsOf kind .place) place ≡ place) × (usedOf (fieldsOf kind .value) value ≡ value)
-  unfolding inputTests
-  unused-zero kind isAccepted =
-      let fails = none-holds (inputTests kind thread place value) (input-refuses kind thread place value) isAccepted in
-      let two = or-fails _ _ (fails .1 .1 .0) in
-      let one = or-fails _ _ (two .0) in
-      (used-is (fieldsOf kind .thread) thread (one .0), used-is (fieldsOf kind .place) place (one .1), used-is (fieldsOf kind .value) value (two .1))
-
-  -- so the step is the one of the fields that are used
-  pub input-accepted : (number is : ℕ) (kind : Kind) → kindOf is ≡ some kind → number ≡ is → numberOf (inputAnswer (kindOf number) thread place value) ≡ 0 → stepOf machine number thread place value ≡ stepOf machine is (usedOf (fieldsOf kind .thread) thread) (usedOf (fieldsOf kind .place) place) (usedOf (fieldsOf kind .value) value)
+  -- accepted: the tests of the state decide
+  pub input-accepted : (number is : ℕ) (kind : Kind) → kindOf is ≡ some kind → number ≡ is → numberOf (inputAnswer (kindOf number) thread place value) ≡ 0 → stepOf machine number thread place value ≡ unless (refused machine) (stateTests machine kind thread place) (effect machine kind thread place value)
+  unfolding stepOf stepOfKind
   input-accepted number is kind isKind same isAccepted =
-      let zero = unused-zero kind (rw (same, isKind) at isAccepted) in
-      rw (same, zero .0, zero .1, zero .2)
+      rw (same, isKind)
+      (goes-on (refused machine) (effect machine kind thread place value) (stateTests machine kind thread place) (inputTests kind thread place value) (input-refuses kind thread place value) (rw (same, isKind) at isAccepted))
 
 -- the number of an accepted kind
 known : (thread place value number : ℕ) → numberOf (inputAnswer (kindOf number) thread place value) ≡ 0 → (1 ≤ number) × (number ≤ 12)

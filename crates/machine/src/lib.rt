@@ -1,13 +1,14 @@
 // The machine of document 01: four threads' logs over one cache, the locks, and the clocks that decide races.
 ghost use mathlib.Core.Path.{_≡_};
-ghost use mathlib.Core.Bool.{true, not, _||_};
+ghost use mathlib.Core.Bool.{true, not, cond, _||_};
 ghost use Prim.Native.Nat.{_-_, _<_, max};
 ghost use lib.ListN.{length, getD};
 ghost use lib.Dec.{eqb, ltb};
 ghost use Rattle.answer.specs.Lists.{someBelow};
+ghost use Rattle.answer.specs.Answer.{numberOf};
 ghost use Rattle.answer.specs.Refusals.{firstRefusal};
 ghost use Rattle.cache.specs.Cache.{cellCount};
-ghost use Rattle.log.specs.Entries.{placeOf, liveEvent, pruneOf};
+ghost use Rattle.log.specs.Entries.{placeOf, liveEvent, appendedOf, pruneOf};
 ghost use Rattle.log.specs.Regions.{oldestRegion, isFinished};
 ghost use Rattle.stretch.specs.Stretch.{imageWords};
 ghost use Rattle.machine.specs.Clocks.{clockAt, joinOf, raisedOf, isKnown, loadedOf, loggedCellOf, hasUnknown};
@@ -20,6 +21,7 @@ ghost use Rattle.machine.specs.Runs.{Reached};
 ghost use Rattle.machine.specs.Steps.{stepOf};
 use answer::Answer;
 use cache::Cache;
+use log::Changed;
 use log::Event;
 use log::Found;
 use log::Log;
@@ -469,20 +471,29 @@ fn pruned_locks(mut locks: [Lock; 8], last: Event) -> [Lock; 8]
     ensures { λ r. ⌜ r ≡ prunedLocks locks last ⌝ }
 {
     match last {
-        Event::Empty => locks,
-        Event::Store { cell: _, old: _ } => locks,
-        Event::Acquire { lock: _, count: _ } => locks,
+        Event::Empty => {}
+        Event::Store { cell: _, old: _ } => {}
+        Event::Acquire { lock: _, count: _ } => {}
         Event::Release { lock, count: _ } => {
             let at = lock as usize;
-            if 7 < at {
-                return locks;
+            if at < 8 {
+                let held = locks[at];
+                let counted = held.counted();
+                locks[at] = counted;
             }
-            let held = locks[at];
-            let counted = held.counted();
-            locks[at] = counted;
-            locks
         }
     }
+    locks
+}
+
+// Appends the entry where a step's own tests allow it: their refusal, or else what the append answers, beside the log after it.
+fn enter(log: Log, asked: Answer, event: Event) -> Changed
+    ensures { λ r. ⌜ r ≡ cond (eqb (numberOf asked) 0) (appendedOf log event) (record { answer = asked; log = log }) ⌝ }
+{
+    if answer::number(asked) != 0 {
+        return Changed { answer: asked, log };
+    }
+    log.append(event)
 }
 
 // One of two fields is not 0.
@@ -631,468 +642,246 @@ impl Machine {
     }
 
     // LOAD: answers the cell's cached content, where its last LOG happens before.
-    pub fn load(mut self, thread: u64, cell: u64) -> Stepped
+    pub fn load(self, thread: u64, cell: u64) -> Stepped
         requires { ⌜ Reached self ⌝ }
         ensures { λ r. ⌜ r ≡ stepOf self 1 thread cell 0 ⌝ }
     {
-        if 3 < thread {
-            return Stepped {
-                answer: Answer::NoSuchThread,
-                machine: self,
-            };
-        }
-        if 127 < cell {
-            return Stepped {
-                answer: Answer::NoSuchPlace,
-                machine: self,
-            };
-        }
-        let at = thread as usize;
-        let place = cell as usize;
-        let cache = self.cache;
-        let clock = self.clocks[at];
-        let accesses = self.accesses;
-        if accesses.load_races(clock, place) {
-            return Stepped {
-                answer: Answer::Race,
-                machine: self,
-            };
-        }
-        let found = cache.load(place);
-        let stamp = clock.at(at);
-        let loaded = accesses.loaded(at, place, stamp);
-        self.accesses = loaded;
-        Stepped {
-            answer: Answer::Accepted(found),
-            machine: self,
-        }
+        self.step(1, thread, cell, 0)
     }
 
     // LOG: a STORE entry with the cell's cached content, where every earlier access of the cell that may race happens before. Answers its LSN.
-    pub fn log(mut self, thread: u64, cell: u64) -> Stepped
+    pub fn log(self, thread: u64, cell: u64) -> Stepped
         requires { ⌜ Reached self ⌝ }
         ensures { λ r. ⌜ r ≡ stepOf self 2 thread cell 0 ⌝ }
     {
-        if 3 < thread {
-            return Stepped {
-                answer: Answer::NoSuchThread,
-                machine: self,
-            };
-        }
-        if 127 < cell {
-            return Stepped {
-                answer: Answer::NoSuchPlace,
-                machine: self,
-            };
-        }
-        let at = thread as usize;
-        let place = cell as usize;
-        let log = self.logs[at];
-        let clock = self.clocks[at];
-        let accesses = self.accesses;
-        let allowed = log_answer(log, accesses, clock, place);
-        if answer::number(allowed) != 0 {
-            return Stepped {
-                answer: allowed,
-                machine: self,
-            };
-        }
-        let cache = self.cache;
-        let old = cache.load(place);
-        let cell_number = cell as u8;
-        let logged = log.append(Event::Store {
-            cell: cell_number,
-            old,
-        });
-        let refusal = logged.answer;
-        let grown = logged.log;
-        if answer::number(refusal) != 0 {
-            return Stepped {
-                answer: refusal,
-                machine: self,
-            };
-        }
-        let stamp = clock.at(at);
-        let accessed = accesses.logged_cell(at, place, stamp);
-        self.logs[at] = grown;
-        self.accesses = accessed;
-        let lsn = logged.answer;
-        Stepped {
-            answer: lsn,
-            machine: self,
-        }
+        self.step(2, thread, cell, 0)
     }
 
     // STORE: the cell's cached content is the value, where the current region has a durable entry of it.
-    pub fn store(mut self, thread: u64, cell: u64, value: u64) -> Stepped
+    pub fn store(self, thread: u64, cell: u64, value: u64) -> Stepped
         requires { ⌜ Reached self ⌝ }
         ensures { λ r. ⌜ r ≡ stepOf self 3 thread cell value ⌝ }
     {
-        if 3 < thread {
-            return Stepped {
-                answer: Answer::NoSuchThread,
-                machine: self,
-            };
-        }
-        if 127 < cell {
-            return Stepped {
-                answer: Answer::NoSuchPlace,
-                machine: self,
-            };
-        }
-        let at = thread as usize;
-        let place = cell as usize;
-        let log = self.logs[at];
-        let allowed = store_answer(log, place);
-        if answer::number(allowed) != 0 {
-            return Stepped {
-                answer: allowed,
-                machine: self,
-            };
-        }
-        let cache = self.cache;
-        let stored = cache.store(place, value);
-        self.cache = stored;
-        Stepped {
-            answer: Answer::Accepted(0),
-            machine: self,
-        }
+        self.step(3, thread, cell, value)
     }
 
     // ACQUIRE: takes a free lock, with an ACQUIRE entry of its count. The thread knows what the lock's last RELEASE knew. Answers the count.
-    pub fn acquire(mut self, thread: u64, lock: u64) -> Stepped
+    pub fn acquire(self, thread: u64, lock: u64) -> Stepped
         requires { ⌜ Reached self ⌝ }
         ensures { λ r. ⌜ r ≡ stepOf self 4 thread lock 0 ⌝ }
     {
-        if 3 < thread {
-            return Stepped {
-                answer: Answer::NoSuchThread,
-                machine: self,
-            };
-        }
-        if 7 < lock {
-            return Stepped {
-                answer: Answer::NoSuchPlace,
-                machine: self,
-            };
-        }
-        let at = thread as usize;
-        let place = lock as usize;
-        let log = self.logs[at];
-        let wanted = self.locks[place];
-        let allowed = acquire_answer(log, wanted);
-        if answer::number(allowed) != 0 {
-            return Stepped {
-                answer: allowed,
-                machine: self,
-            };
-        }
-        let count = wanted.count;
-        let lock_number = lock as u8;
-        let acquired = log.append(Event::Acquire {
-            lock: lock_number,
-            count,
-        });
-        let refusal = acquired.answer;
-        let begun = acquired.log;
-        if answer::number(refusal) != 0 {
-            return Stepped {
-                answer: refusal,
-                machine: self,
-            };
-        }
-        let holder = thread as u8;
-        let taken = wanted.taken_by(holder);
-        let clock = self.clocks[at];
-        let last_release = self.lock_clocks[place];
-        let joined = clock.join(last_release);
-        self.logs[at] = begun;
-        self.locks[place] = taken;
-        self.clocks[at] = joined;
-        let given = count.0 as u64;
-        Stepped {
-            answer: Answer::Accepted(given),
-            machine: self,
-        }
+        self.step(4, thread, lock, 0)
     }
 
     // LOGREL: a RELEASE entry with the lock's count, where the thread holds the lock. Answers the count.
-    pub fn log_release(mut self, thread: u64, lock: u64) -> Stepped
+    pub fn log_release(self, thread: u64, lock: u64) -> Stepped
         requires { ⌜ Reached self ⌝ }
         ensures { λ r. ⌜ r ≡ stepOf self 5 thread lock 0 ⌝ }
     {
-        if 3 < thread {
-            return Stepped {
-                answer: Answer::NoSuchThread,
-                machine: self,
-            };
-        }
-        if 7 < lock {
-            return Stepped {
-                answer: Answer::NoSuchPlace,
-                machine: self,
-            };
-        }
-        let at = thread as usize;
-        let log = self.logs[at];
-        let held = self.locks[lock as usize];
-        let holder = thread as u8;
-        let allowed = log_release_answer(log, held, holder);
-        if answer::number(allowed) != 0 {
-            return Stepped {
-                answer: allowed,
-                machine: self,
-            };
-        }
-        let count = held.count;
-        let lock_number = lock as u8;
-        let released = log.append(Event::Release {
-            lock: lock_number,
-            count,
-        });
-        let refusal = released.answer;
-        let entered = released.log;
-        if answer::number(refusal) != 0 {
-            return Stepped {
-                answer: refusal,
-                machine: self,
-            };
-        }
-        self.logs[at] = entered;
-        let given = count.0 as u64;
-        Stepped {
-            answer: Answer::Accepted(given),
-            machine: self,
-        }
+        self.step(5, thread, lock, 0)
     }
 
     // RELEASE: the lock is free, with one release more and the thread's clock, and the thread's own number grows.
-    pub fn release(mut self, thread: u64, lock: u64) -> Stepped
+    pub fn release(self, thread: u64, lock: u64) -> Stepped
         requires { ⌜ Reached self ⌝ }
         ensures { λ r. ⌜ r ≡ stepOf self 6 thread lock 0 ⌝ }
     {
-        if 3 < thread {
-            return Stepped {
-                answer: Answer::NoSuchThread,
-                machine: self,
-            };
-        }
-        if 7 < lock {
-            return Stepped {
-                answer: Answer::NoSuchPlace,
-                machine: self,
-            };
-        }
-        let at = thread as usize;
-        let place = lock as usize;
-        let log = self.logs[at];
-        let releasable = release_answer(log, lock as u8);
-        if answer::number(releasable) != 0 {
-            return Stepped {
-                answer: releasable,
-                machine: self,
-            };
-        }
-        let ended = log.end_release();
-        let held = self.locks[place];
-        let known = self.clocks[at];
-        let freed = held.freed();
-        let raised = known.raise(at);
-        self.logs[at] = ended;
-        self.locks[place] = freed;
-        self.lock_clocks[place] = known;
-        self.clocks[at] = raised;
-        Stepped {
-            answer: Answer::Accepted(0),
-            machine: self,
-        }
+        self.step(6, thread, lock, 0)
     }
 
     // FLUSH: the thread has a flush of the line pending.
-    pub fn flush(mut self, thread: u64, line: u64) -> Stepped
+    pub fn flush(self, thread: u64, line: u64) -> Stepped
         requires { ⌜ Reached self ⌝ }
         ensures { λ r. ⌜ r ≡ stepOf self 7 thread line 0 ⌝ }
     {
-        if 3 < thread {
-            return Stepped {
-                answer: Answer::NoSuchThread,
-                machine: self,
-            };
-        }
-        if 15 < line {
-            return Stepped {
-                answer: Answer::NoSuchPlace,
-                machine: self,
-            };
-        }
-        let cache = self.cache;
-        let flushed = cache.flush(thread as usize, line as usize);
-        self.cache = flushed;
-        Stepped {
-            answer: Answer::Accepted(0),
-            machine: self,
-        }
+        self.step(7, thread, line, 0)
     }
 
     // FLUSHLOG: the thread's entries made so far are flushed.
-    pub fn flush_log(mut self, thread: u64) -> Stepped
+    pub fn flush_log(self, thread: u64) -> Stepped
         requires { ⌜ Reached self ⌝ }
         ensures { λ r. ⌜ r ≡ stepOf self 8 thread 0 0 ⌝ }
     {
-        if 3 < thread {
-            return Stepped {
-                answer: Answer::NoSuchThread,
-                machine: self,
-            };
-        }
-        let at = thread as usize;
-        let log = self.logs[at];
-        let flushed = log.flush();
-        self.logs[at] = flushed;
-        Stepped {
-            answer: Answer::Accepted(0),
-            machine: self,
-        }
+        self.step(8, thread, 0, 0)
     }
 
     // FENCE: the thread's pending flushes of lines complete, and its flushed entries become persisted and durable.
-    pub fn fence(mut self, thread: u64) -> Stepped
+    pub fn fence(self, thread: u64) -> Stepped
         requires { ⌜ Reached self ⌝ }
         ensures { λ r. ⌜ r ≡ stepOf self 9 thread 0 0 ⌝ }
     {
-        if 3 < thread {
-            return Stepped {
-                answer: Answer::NoSuchThread,
-                machine: self,
-            };
-        }
-        let at = thread as usize;
-        let cache = self.cache;
-        let log = self.logs[at];
-        let fenced = cache.fence(at);
-        let durable = log.fence();
-        self.cache = fenced;
-        self.logs[at] = durable;
-        Stepped {
-            answer: Answer::Accepted(0),
-            machine: self,
-        }
+        self.step(9, thread, 0, 0)
     }
 
     // PRUNE: the head moves past the thread's oldest finished region, and the answer is how many entries that has.
-    pub fn prune(mut self, thread: u64) -> Stepped
+    pub fn prune(self, thread: u64) -> Stepped
         requires { ⌜ Reached self ⌝ }
         ensures { λ r. ⌜ r ≡ stepOf self 10 thread 0 0 ⌝ }
     {
-        if 3 < thread {
-            return Stepped {
-                answer: Answer::NoSuchThread,
-                machine: self,
-            };
-        }
-        let at = thread as usize;
-        let log = self.logs[at];
-        let cache = self.cache;
-        let locks = self.locks;
-        let prunable = prune_answer(log, cache, locks);
-        if answer::number(prunable) != 0 {
-            return Stepped {
-                answer: prunable,
-                machine: self,
-            };
-        }
-        let region = log.oldest_region();
-        let last = log.live_event(region - 1);
-        let pruned = pruned_log(log, region);
-        let counted = pruned_locks(locks, last);
-        self.logs[at] = pruned;
-        self.locks = counted;
-        Stepped {
-            answer: Answer::Accepted(region as u64),
-            machine: self,
-        }
+        self.step(10, thread, 0, 0)
     }
 
     // EVICT: the line's cached content is persisted.
-    pub fn evict(mut self, line: u64) -> Stepped
+    pub fn evict(self, line: u64) -> Stepped
         requires { ⌜ Reached self ⌝ }
         ensures { λ r. ⌜ r ≡ stepOf self 11 0 line 0 ⌝ }
     {
-        if 15 < line {
-            return Stepped {
-                answer: Answer::NoSuchPlace,
-                machine: self,
-            };
-        }
-        let cache = self.cache;
-        let evicted = cache.evict(line as usize);
-        self.cache = evicted;
-        Stepped {
-            answer: Answer::Accepted(0),
-            machine: self,
-        }
+        self.step(11, 0, line, 0)
     }
 
     // EVICTLOG: the entry in the slot becomes persisted.
-    pub fn evict_log(mut self, thread: u64, slot: u64) -> Stepped
+    pub fn evict_log(self, thread: u64, slot: u64) -> Stepped
         requires { ⌜ Reached self ⌝ }
         ensures { λ r. ⌜ r ≡ stepOf self 12 thread slot 0 ⌝ }
     {
-        if 3 < thread {
-            return Stepped {
-                answer: Answer::NoSuchThread,
-                machine: self,
-            };
-        }
-        if 63 < slot {
-            return Stepped {
-                answer: Answer::NoSuchPlace,
-                machine: self,
-            };
-        }
-        let at = thread as usize;
-        let log = self.logs[at];
-        let changed = log.evict_slot(slot as usize);
-        let answer = changed.answer;
-        let evicted = changed.log;
-        if answer::number(answer) != 0 {
-            return Stepped {
-                answer,
-                machine: self,
-            };
-        }
-        self.logs[at] = evicted;
-        Stepped {
-            answer,
-            machine: self,
-        }
+        self.step(12, thread, slot, 0)
     }
 
-    // A step of any kind, with any four words: the input's tests, then the method of the kind. Of the kinds, 12 is left for the last arm.
-    pub fn step(self, kind: u64, thread: u64, place: u64, value: u64) -> Stepped
+    // A step of any kind, with any four words: the input's tests, then those of the state, then the effect. All kinds change the machine
+    // here, where it is held, since each function that takes a machine copies it. Of the kinds, 12 is left for the last arm.
+    pub fn step(mut self, kind: u64, thread: u64, place: u64, value: u64) -> Stepped
         requires { ⌜ Reached self ⌝ }
         ensures { λ r. ⌜ r ≡ stepOf self kind thread place value ⌝ }
     {
-        let asked = input_answer(kind, thread, place, value);
-        if answer::number(asked) != 0 {
-            return Stepped {
-                answer: asked,
-                machine: self,
-            };
+        let mut answer = input_answer(kind, thread, place, value);
+        if answer::number(answer) == 0 {
+            let at = thread as usize;
+            let to = place as usize;
+            let log = self.logs[at];
+            let cache = self.cache;
+            let clock = self.clocks[at];
+            match kind {
+                // LOAD
+                1 => {
+                    let accesses = self.accesses;
+                    if accesses.load_races(clock, to) {
+                        answer = Answer::Race;
+                    } else {
+                        let loaded = accesses.loaded(at, to, clock.at(at));
+                        self.accesses = loaded;
+                        answer = Answer::Accepted(cache.load(to));
+                    }
+                }
+                // LOG
+                2 => {
+                    let accesses = self.accesses;
+                    let accessed = accesses.logged_cell(at, to, clock.at(at));
+                    let old = cache.load(to);
+                    let asked = log_answer(log, accesses, clock, to);
+                    let cell = place as u8;
+                    let logged = enter(log, asked, Event::Store { cell, old });
+                    answer = logged.answer;
+                    if answer::number(answer) == 0 {
+                        let grown = logged.log;
+                        self.logs[at] = grown;
+                        self.accesses = accessed;
+                    }
+                }
+                // STORE
+                3 => {
+                    answer = store_answer(log, to);
+                    if answer::number(answer) == 0 {
+                        let stored = cache.store(to, value);
+                        self.cache = stored;
+                    }
+                }
+                // ACQUIRE
+                4 => {
+                    let wanted = self.locks[to];
+                    let asked = acquire_answer(log, wanted);
+                    let lock = place as u8;
+                    let count = wanted.count;
+                    let acquired = enter(log, asked, Event::Acquire { lock, count });
+                    answer = acquired.answer;
+                    if answer::number(answer) == 0 {
+                        let begun = acquired.log;
+                        let taken = wanted.taken_by(thread as u8);
+                        let last_release = self.lock_clocks[to];
+                        let joined = clock.join(last_release);
+                        self.logs[at] = begun;
+                        self.locks[to] = taken;
+                        self.clocks[at] = joined;
+                        answer = Answer::Accepted(count.0 as u64);
+                    }
+                }
+                // LOGREL
+                5 => {
+                    let held = self.locks[to];
+                    let asked = log_release_answer(log, held, thread as u8);
+                    let lock = place as u8;
+                    let count = held.count;
+                    let released = enter(log, asked, Event::Release { lock, count });
+                    answer = released.answer;
+                    if answer::number(answer) == 0 {
+                        let entered = released.log;
+                        self.logs[at] = entered;
+                        answer = Answer::Accepted(count.0 as u64);
+                    }
+                }
+                // RELEASE
+                6 => {
+                    answer = release_answer(log, place as u8);
+                    if answer::number(answer) == 0 {
+                        let ended = log.end_release();
+                        let held = self.locks[to];
+                        let freed = held.freed();
+                        let raised = clock.raise(at);
+                        self.logs[at] = ended;
+                        self.locks[to] = freed;
+                        self.lock_clocks[to] = clock;
+                        self.clocks[at] = raised;
+                    }
+                }
+                // FLUSH
+                7 => {
+                    let flushed = cache.flush(at, to);
+                    self.cache = flushed;
+                }
+                // FLUSHLOG
+                8 => {
+                    let flushed = log.flush();
+                    self.logs[at] = flushed;
+                }
+                // FENCE
+                9 => {
+                    let fenced = cache.fence(at);
+                    let durable = log.fence();
+                    self.cache = fenced;
+                    self.logs[at] = durable;
+                }
+                // PRUNE
+                10 => {
+                    let locks = self.locks;
+                    answer = prune_answer(log, cache, locks);
+                    if answer::number(answer) == 0 {
+                        let region = log.oldest_region();
+                        let last = log.live_event(region - 1);
+                        let pruned = pruned_log(log, region);
+                        let counted = pruned_locks(locks, last);
+                        self.logs[at] = pruned;
+                        self.locks = counted;
+                        answer = Answer::Accepted(region as u64);
+                    }
+                }
+                // EVICT
+                11 => {
+                    let evicted = cache.evict(to);
+                    self.cache = evicted;
+                }
+                // EVICTLOG
+                _ => {
+                    let changed = log.evict_slot(to);
+                    answer = changed.answer;
+                    if answer::number(answer) == 0 {
+                        let evicted = changed.log;
+                        self.logs[at] = evicted;
+                    }
+                }
+            }
         }
-        match kind {
-            1 => self.load(thread, place),
-            2 => self.log(thread, place),
-            3 => self.store(thread, place, value),
-            4 => self.acquire(thread, place),
-            5 => self.log_release(thread, place),
-            6 => self.release(thread, place),
-            7 => self.flush(thread, place),
-            8 => self.flush_log(thread),
-            9 => self.fence(thread),
-            10 => self.prune(thread),
-            11 => self.evict(place),
-            _ => self.evict_log(thread, place),
+        Stepped {
+            answer,
+            machine: self,
         }
     }
 

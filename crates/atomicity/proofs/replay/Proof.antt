@@ -47,11 +47,11 @@ replayed words steps image cells machine isAfter imageLong cellsLong cut found i
 
 returns : tie.Need-returns
 unfolding replayOf
-returns c = rw (ne-eqb _ _ (c .if1 .taken))
+returns c = rw (ne-eqb _ 1156 (c .if1 .taken))
 
 returns-2 : tie.Need-returns-2
 unfolding replayOf
-returns-2 c = rw (eq-eqb _ _ (c .before .if1 .left), ne-eqb _ _ (c .if2 .taken))
+returns-2 c = rw (eq-eqb _ 1156 (c .before .if1 .left), ne-eqb _ 128 (c .if2 .taken))
 
 run-requires : tie.Need-run-requires
 run-requires c κs = search needs

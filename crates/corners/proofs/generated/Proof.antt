@@ -8,11 +8,9 @@ use Rattle.corners.proofs.generated.Statement.{statement}
 use Rattle.corners.proofs.generated.Tie as tie
 use Rattle.corners.proofs.generated.Reads as reads
 use Rattle.corners.proofs.generated.Lts as lts
-use Rattle.corners.proofs.kind_of.Reads as kind-of-reads
 use Rattle.corners.proofs.next.Reads as next-reads
-use Rattle.corners.proofs.place_of.Reads as place-of-reads
 use Rattle.corners.proofs.put.Reads as put-reads
-use Rattle.corners.proofs.value_of.Reads as value-of-reads
+use Rattle.corners.proofs.step_at.Reads as step-at-reads
 
 abbrev Inv-loop : tie.InvT-loop
 Inv-loop listing steps₀ chance₀ done₀ steps chance done = (done ≤ 200) × (length steps ≡ 800)
@@ -29,26 +27,11 @@ next-requires c κs = search needs
 loop-holds : tie.Need-loop-holds Inv-loop μ-loop
 loop-holds c = search needs
 
-kind-of-requires : tie.Need-kind-of-requires Inv-loop μ-loop
-kind-of-requires c κs = search needs
-
 next-requires-2 : tie.Need-next-requires-2 Inv-loop μ-loop
 next-requires-2 c κs = search needs
 
-next-requires-3 : tie.Need-next-requires-3 Inv-loop μ-loop
-next-requires-3 c κs = search needs
-
-place-of-requires : tie.Need-place-of-requires Inv-loop μ-loop
-place-of-requires c κs = search needs
-
-next-requires-4 : tie.Need-next-requires-4 Inv-loop μ-loop
-next-requires-4 c κs = search needs
-
-value-of-requires : tie.Need-value-of-requires Inv-loop μ-loop
-value-of-requires c κs = search needs
-
-next-requires-5 : tie.Need-next-requires-5 Inv-loop μ-loop
-next-requires-5 c κs = search needs
+step-at-requires : tie.Need-step-at-requires Inv-loop μ-loop
+step-at-requires c κs = search needs
 
 slice-aggregate-put : tie.Need-slice-aggregate-put Inv-loop μ-loop
 slice-aggregate-put c = search needs
@@ -77,13 +60,8 @@ generated-spec =
     add-next
     next-requires
     loop-holds
-    kind-of-requires
     next-requires-2
-    next-requires-3
-    place-of-requires
-    next-requires-4
-    value-of-requires
-    next-requires-5
+    step-at-requires
     slice-aggregate-put
     put-requires
     add-done

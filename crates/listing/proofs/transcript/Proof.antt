@@ -11,13 +11,13 @@ use lib.ListN.{length, drop}
 use Rattle.answer.specs.declared.Answer.the-variants.{Unreadable as UnreadableAnswer}
 use Rattle.bytes.specs.Bytes.{indexOf}
 use Rattle.machine.specs.declared.Stepped.{Stepped}
-use Rattle.listing.specs.Lines.{newline, firstLine}
+use Rattle.line.specs.Lines.{newline, firstLine}
 use Rattle.listing.specs.Transcript.{mostInput, startMachine, transcriptRoom}
-use Rattle.listing.specs.declared.line.Line.{Line}
-use Rattle.listing.specs.declared.line.Line.the-variants.{Step, Unreadable}
-use Rattle.listing.proofs.line.Line as declared
-use Rattle.listing.proofs.BufferLaws.{Wrote, wrote-first}
-use Rattle.listing.proofs.TextLaws.{part-rest}
+use Rattle.line.specs.declared.Line.{Line}
+use Rattle.line.specs.declared.Line.the-variants.{Step, Unreadable}
+use Rattle.line.proofs.Line as declared
+use Rattle.print.proofs.BufferLaws.{Wrote, wrote-first}
+use Rattle.line.proofs.TextLaws.{part-rest}
 use Rattle.listing.proofs.TranscriptLaws.{result-most, Printing, printing-start, printing-step, printing-unreadable, printing-end, printing-long, line-within, cells-fit, transcript-done, transcript-refused, transcript-long}
 use Rattle.listing.proofs.transcript.Statement.{statement}
 use Rattle.listing.proofs.transcript.Tie as tie

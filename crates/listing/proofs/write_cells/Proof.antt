@@ -4,7 +4,7 @@ use mathlib.Core.Logic.{⊎-elim}
 use mathlib.Core.Path.{_∙_}
 use borrow.Author.Needs.{needs}
 use lib.ListN.{length}
-use Rattle.listing.proofs.PrintLaws.{CellsWrote, cells-start, cells-same, cells-more, cells-done, cells-long}
+use Rattle.print.proofs.PrintLaws.{CellsWrote, cells-start, cells-same, cells-more, cells-done, cells-long}
 use Rattle.listing.proofs.write_cells.Statement.{statement}
 use Rattle.listing.proofs.write_cells.Tie as tie
 

@@ -4,8 +4,8 @@ use mathlib.Core.List.{List}
 use mathlib.Core.Path.{_≡_, _∙_, ap, subst⁻¹}
 use borrow.Author.Needs.{needs}
 use lib.ListN.{length}
-use Rattle.listing.specs.Buffers.{written}
-use Rattle.listing.specs.Printed.{cellsText}
+use Rattle.print.specs.Buffers.{written}
+use Rattle.print.specs.Printed.{cellsText}
 use Rattle.listing.specs.Transcript.{recoveredCells}
 use Rattle.listing.proofs.RecoveredLaws.{recovered-are}
 use Rattle.listing.proofs.write_recovered.Statement.{statement}

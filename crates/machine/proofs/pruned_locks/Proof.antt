@@ -26,13 +26,6 @@ enum-known-last c = search needs
 cast-at : tie.Need-cast-at
 cast-at c = search needs
 
-returns : tie.Need-returns
-returns c =
-    let locks = c .before .before .before .before .args .t1 in
-    let lock = c .before .before .last .given .0 .0 in
-    let past : length locks ≤ lock = omega arith in
-    sym (ap (prunedLocks locks) (c .before .before .last .given .1) ∙ set-out locks lock (onePruned (getD locks lock noLock)) past)
-
 mul-held : tie.Need-mul-held
 mul-held c = search needs
 
@@ -50,6 +43,9 @@ mul-locks c = search needs
 array-set-from-locks : tie.Need-array-set-from-locks
 array-set-from-locks c = search needs
 
+returns : tie.Need-returns
+returns c = search needs
+
 returns-2 : tie.Need-returns-2
 returns-2 c = search needs
 
@@ -57,10 +53,14 @@ returns-3 : tie.Need-returns-3
 returns-3 c = search needs
 
 returns-4 : tie.Need-returns-4
-returns-4 c = search needs
+returns-4 c = sym (ap (prunedLocks (c .before .before .before .before .before .before .args .t1)) (c .before .before .before .before .last .given .1) ∙ rw (c .counted .ensures))
 
 returns-5 : tie.Need-returns-5
-returns-5 c = sym (ap (prunedLocks (c .before .before .before .before .before .before .args .t1)) (c .before .before .before .before .last .given .1) ∙ rw (c .counted .ensures))
+returns-5 c =
+    let locks = c .before .before .before .before .args .t1 in
+    let lock = c .before .before .last .given .0 .0 in
+    let past : length locks ≤ lock = omega arith in
+    sym (ap (prunedLocks locks) (c .before .before .last .given .1) ∙ set-out locks lock (onePruned (getD locks lock noLock)) past)
 
 pub pruned-locks-spec : {M : Type 1} → statement M
 pruned-locks-spec =
@@ -71,12 +71,12 @@ pruned-locks-spec =
     enum-told-3
     enum-known-last
     cast-at
-    returns
     mul-held
     array-copy-out-held
     counted-requires
     mul-locks
     array-set-from-locks
+    returns
     returns-2
     returns-3
     returns-4

@@ -12,7 +12,7 @@ fresh-requires c κs = search needs
 
 returns : tie.Need-returns
 unfolding startOf
-returns c = rw (ne-eqb _ _ (c .before .if1 .taken), c .fresh .ensures)
+returns c = rw (ne-eqb _ 128 (c .before .if1 .taken), c .fresh .ensures)
 
 start-cells-requires : tie.Need-start-cells-requires
 start-cells-requires c κs = search needs
@@ -22,7 +22,7 @@ fresh-requires-2 c κs = search needs
 
 returns-2 : tie.Need-returns-2
 unfolding startOf
-returns-2 c = rw (eq-eqb _ _ (c .before .before .if1 .left), c .fresh2 .ensures, c .before .start-cells .ensures)
+returns-2 c = rw (eq-eqb _ 128 (c .before .before .if1 .left), c .fresh2 .ensures, c .before .start-cells .ensures)
 
 pub start-spec : {M : Type 1} → statement M
 start-spec =

@@ -1,0 +1,108 @@
+-- Laws of what is printed: the lines as their pieces make them.
+use Prim.Native.Nat.{ℕ, _+_, _≤_, _<_}
+use mathlib.Core.Path.{_≡_, refl, sym, _∙_, ap, ap₂}
+use mathlib.Core.List.{List, [], _++_, append-assoc, append-nil}
+use native.Mathlib.Numerals.{add-one}
+use native.Mathlib.Omega.{arith}
+use borrow.Author.Tests.{eq-eqb, ne-eqb}
+use lib.ListN.{length, getD, take, drop, length-append, take-append-drop, drop-of-length-le}
+use lib.Seq.{length-take-le, take-length}
+use Rattle.answer.specs.Answer.{numberOf, valueOf}
+use Rattle.answer.specs.declared.Answer.{Answer}
+use Rattle.line.specs.Text.{ascii, decimalText}
+use Rattle.print.specs.Buffers.{written, placeAfter}
+use Rattle.print.specs.Printed.{resultText, cellText, cellsText}
+use Rattle.print.proofs.BufferLaws.{Wrote, wrote-more, wrote-long, pasted, Upto}
+use Rattle.line.proofs.TextLaws.{drop-first}
+
+-- the pieces of a step's line, where the numbers are the answer's
+pub result-line : {most : ℕ} {old buffer : List ℕ} {place : ℕ} (number : ℕ) (answer : Answer) {given beside : ℕ} → given ≡ numberOf answer → beside ≡ valueOf answer
+    → Upto most old buffer place (ascii "n=" ++ decimalText number ++ ascii " answer=" ++ decimalText given ++ ascii " value=" ++ decimalText beside ++ ascii "\n")
+    → Wrote old buffer place (resultText number answer)
+unfolding resultText
+result-line number answer is beside-is line = rw (sym is, sym beside-is) (line .wrote)
+
+-- the pieces of a cell's line
+pub cell-line : {most : ℕ} {old buffer : List ℕ} {place : ℕ} (cell content : ℕ)
+    → Upto most old buffer place (ascii "cell=" ++ decimalText cell ++ ascii " holds=" ++ decimalText content ++ ascii "\n")
+    → Wrote old buffer place (cellText cell content)
+unfolding cellText
+cell-line cell content line = line .wrote
+
+module _ (cells : List ℕ) (i : ℕ) where
+  -- one more cell, which isn't 0
+  pub cells-on : i < length cells → (getD cells i 0 ≡ 0 → ⊥) → cellsText i (drop i cells) ≡ cellText i (getD cells i 0) ++ cellsText (i + 1) (drop (i + 1) cells)
+  unfolding cellsText
+  cells-on within some = rw (drop-first cells i within, ne-eqb (getD cells i 0) 0 some, add-one)
+
+  -- one more cell, which is 0
+  pub cells-skip : i < length cells → getD cells i 0 ≡ 0 → cellsText i (drop i cells) ≡ cellsText (i + 1) (drop (i + 1) cells)
+  unfolding cellsText
+  cells-skip within none = rw (drop-first cells i within, eq-eqb (getD cells i 0) 0 none, add-one)
+
+  pub cells-end : length cells ≤ i → cellsText i (drop i cells) ≡ []
+  unfolding cellsText
+  cells-end past = rw (drop-of-length-le cells past)
+
+-- the lines of so many cells are in the buffer from a place on, and those that are left make up the whole
+pub record CellsWrote (old : List ℕ) (start : ℕ) (cells buffer : List ℕ) (place i : ℕ) : Type 0 where
+  pub done : List ℕ
+  pub wrote : Wrote old buffer place (take start old ++ done)
+  pub left : done ++ cellsText i (drop i cells) ≡ cellsText 0 cells
+
+module _ (old : List ℕ) (start : ℕ) (cells : List ℕ) (fits : start + length (cellsText 0 cells) ≤ length old) where
+  before-cells : length (take start old) ≡ start
+  before-cells = length-take-le start old (omega arith)
+
+  pub cells-start : CellsWrote old start cells old start 0
+  cells-start = record {
+    done = [];
+    wrote = record {
+      end = sym (ap length (append-nil (take start old)) ∙ before-cells);
+      fits = omega (arith, ap length (append-nil (take start old)), before-cells);
+      held = rw (append-nil (take start old), before-cells) (sym (take-append-drop start old));
+    };
+    left = refl;
+  }
+
+  module _ {buffer : List ℕ} {place : ℕ} (i : ℕ) (within : i < length cells) (so-far : CellsWrote old start cells buffer place i) where
+    pub cells-same : getD cells i 0 ≡ 0 → CellsWrote old start cells buffer place (i + 1)
+    cells-same none = record {
+      done = so-far .done;
+      wrote = so-far .wrote;
+      left = ap (λ (rest : List ℕ). so-far .done ++ rest) (sym (cells-skip cells i within none)) ∙ so-far .left;
+    }
+
+    pub cells-more : (getD cells i 0 ≡ 0 → ⊥) → {place' : ℕ} {buffer' : List ℕ}
+        → place' ≡ placeAfter buffer place (cellText i (getD cells i 0)) → buffer' ≡ written buffer place (cellText i (getD cells i 0))
+        → CellsWrote old start cells buffer' place' (i + 1)
+    cells-more some at is =
+        let text = cellText i (getD cells i 0) in
+        let rest = cellsText (i + 1) (drop (i + 1) cells) in
+        let whole : (so-far .done ++ text) ++ rest ≡ cellsText 0 cells =
+        append-assoc (so-far .done) text rest ∙ ap (λ (tail : List ℕ). so-far .done ++ tail) (sym (cells-on cells i within some)) ∙ so-far .left in
+        let room : length (take start old ++ so-far .done) + length text ≤ length old =
+        omega (arith, ap length whole, length-append (so-far .done ++ text) rest, length-append (so-far .done) text, length-append (take start old) (so-far .done), before-cells) in
+        record {
+          done = so-far .done ++ text;
+          wrote = rw (← append-assoc (take start old) (so-far .done) text) (wrote-more text (so-far .wrote) room at is);
+          left = whole;
+        }
+
+  -- every cell's line is in the buffer
+  pub cells-done : {buffer : List ℕ} {place : ℕ} (i : ℕ) → length cells ≤ i → CellsWrote old start cells buffer place i
+      → (place ≡ start + length (cellsText 0 cells)) × (buffer ≡ written old start (cellsText 0 cells))
+  cells-done i past all =
+      let whole : all .done ≡ cellsText 0 cells =
+      sym (append-nil (all .done)) ∙ ap (λ (rest : List ℕ). all .done ++ rest) (sym (cells-end cells i past)) ∙ all .left in
+      let long : length (take start old ++ all .done) ≡ start + length (cellsText 0 cells) =
+      omega (arith, ap length whole, length-append (take start old) (all .done), before-cells) in (
+        all .wrote .end ∙ long,
+        all .wrote .held
+            ∙ ap₂ (λ (text : List ℕ) (end : ℕ). take start old ++ text ++ drop end old) whole long
+            ∙ ap (λ (text : List ℕ). take start old ++ text ++ drop (start + length (cellsText 0 cells)) old) (sym (take-length (cellsText 0 cells)))
+            ∙ sym (pasted old start (cellsText 0 cells) fits),
+      )
+
+  pub cells-long : {buffer : List ℕ} {place : ℕ} {i : ℕ} → CellsWrote old start cells buffer place i → length buffer ≡ length old
+  cells-long so-far = wrote-long (so-far .wrote)

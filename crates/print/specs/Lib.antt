@@ -1,0 +1,3 @@
+-- What is printed, in a lent buffer.
+pub mod Buffers
+pub mod Printed

@@ -1,0 +1,23 @@
+-- What is printed of a step and of a recovered cell.
+use Prim.Native.Nat.{ℕ, suc}
+use mathlib.Core.Bool.{cond}
+use mathlib.Core.List.{List, [], _∷_, _++_}
+use lib.Dec.{eqb}
+use Rattle.answer.specs.Answer.{numberOf, valueOf}
+use Rattle.answer.specs.declared.Answer.{Answer}
+use Rattle.line.specs.Text.{ascii, decimalText}
+
+-- "It prints per step its number, answer and number given", as `n=1 answer=0 value=0`
+unfoldable pub resultText : ℕ → Answer → List ℕ
+resultText number answer =
+    ascii "n=" ++ decimalText number ++ ascii " answer=" ++ decimalText (numberOf answer) ++ ascii " value=" ++ decimalText (valueOf answer)
+    ++ ascii "\n"
+
+-- a recovered cell, as `cell=5 holds=7`
+unfoldable pub cellText : ℕ → ℕ → List ℕ
+cellText cell content = ascii "cell=" ++ decimalText cell ++ ascii " holds=" ++ decimalText content ++ ascii "\n"
+
+-- "each recovered cell that isn't 0, ascending": the cells from this one on
+unfoldable pub cellsText : ℕ → List ℕ → List ℕ
+cellsText cell [] = []
+cellsText cell (content ∷ contents) = cond (eqb content 0) [] (cellText cell content) ++ cellsText (suc cell) contents
