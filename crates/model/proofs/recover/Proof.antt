@@ -14,15 +14,15 @@ use Rattle.model.proofs.recover.Tie as tie
 listed : (c : tie.Else2) (answer : ℕ) → isAmong answer (0 ∷ 22 ∷ 23 ∷ 24 ∷ []) ≡ true
     → isAmong answer (recoveries (now (c .before .before .before .before .args .image)) (now (c .before .before .before .before .args .cells))) ≡ true
 unfolding recoveries
-listed c answer among = rw (eq-eqb _ _ (c .before .if1 .left), eq-eqb _ _ (c .if2 .left)) among
+listed c answer among = rw (eq-eqb _ 1156 (c .before .if1 .left), eq-eqb _ 128 (c .if2 .left)) among
 
 returns : tie.Need-returns
 unfolding recoveries
-returns c = record { listed = rw (ne-eqb _ _ (c .if1 .taken)); refused = λ _. refl }
+returns c = record { listed = rw (ne-eqb _ 1156 (c .if1 .taken)); refused = λ _. refl }
 
 returns-2 : tie.Need-returns-2
 unfolding recoveries
-returns-2 c = record { listed = rw (eq-eqb _ _ (c .before .if1 .left), ne-eqb _ _ (c .if2 .taken)); refused = λ _. refl }
+returns-2 c = record { listed = rw (eq-eqb _ 1156 (c .before .if1 .left), ne-eqb _ 128 (c .if2 .taken)); refused = λ _. refl }
 
 has-bad-head-requires : tie.Need-has-bad-head-requires
 has-bad-head-requires c κs = search needs

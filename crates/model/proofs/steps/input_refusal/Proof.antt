@@ -8,33 +8,33 @@ use Rattle.model.proofs.steps.input_refusal.Tie as tie
 
 returns : tie.Need-returns
 unfolding inputRefusal
-returns c = rw (lt-ltb _ _ (c .if1 .taken))
+returns c = rw (lt-ltb _ 1 (c .if1 .taken))
 
 returns-2 : tie.Need-returns-2
 unfolding inputRefusal
-returns-2 c = rw (le-ltb _ _ (c .before .if1 .left), lt-ltb _ _ (c .if2 .taken))
+returns-2 c = rw (le-ltb _ 1 (c .before .if1 .left), lt-ltb 12 _ (c .if2 .taken))
 
 returns-3 : tie.Need-returns-3
 unfolding inputRefusal
-returns-3 c = rw (le-ltb _ _ (c .before .before .if1 .left), le-ltb _ _ (c .before .if2 .left), lt-ltb _ _ (c .if3 .taken))
+returns-3 c = rw (le-ltb _ 1 (c .before .before .if1 .left), le-ltb 12 _ (c .before .if2 .left), lt-ltb 3 _ (c .if3 .taken))
 
 is-outside-requires : tie.Need-is-outside-requires
 is-outside-requires c κs = search needs
 
 returns-4 : tie.Need-returns-4
 unfolding inputRefusal
-returns-4 c = let e = c .before .before in rw (le-ltb _ _ (e .before .before .if1 .left), le-ltb _ _ (e .before .if2 .left), le-ltb _ _ (e .if3 .left), sym (c .before .is-outside .ensures) ∙ c .if4 .taken)
+returns-4 c = let e = c .before .before in rw (le-ltb _ 1 (e .before .before .if1 .left), le-ltb 12 _ (e .before .if2 .left), le-ltb 3 _ (e .if3 .left), sym (c .before .is-outside .ensures) ∙ c .if4 .taken)
 
 is-misused-requires : tie.Need-is-misused-requires
 is-misused-requires c κs = search needs
 
 returns-5 : tie.Need-returns-5
 unfolding inputRefusal
-returns-5 c = let e = c .before .before .before .before in rw (le-ltb _ _ (e .before .before .if1 .left), le-ltb _ _ (e .before .if2 .left), le-ltb _ _ (e .if3 .left), sym (c .before .before .before .is-outside .ensures) ∙ c .before .before .if4 .left, sym (c .before .is-misused .ensures) ∙ c .if5 .taken)
+returns-5 c = let e = c .before .before .before .before in rw (le-ltb _ 1 (e .before .before .if1 .left), le-ltb 12 _ (e .before .if2 .left), le-ltb 3 _ (e .if3 .left), sym (c .before .before .before .is-outside .ensures) ∙ c .before .before .if4 .left, sym (c .before .is-misused .ensures) ∙ c .if5 .taken)
 
 returns-6 : tie.Need-returns-6
 unfolding inputRefusal
-returns-6 c = let e = c .before .before .before .before in rw (le-ltb _ _ (e .before .before .if1 .left), le-ltb _ _ (e .before .if2 .left), le-ltb _ _ (e .if3 .left), sym (c .before .before .before .is-outside .ensures) ∙ c .before .before .if4 .left, sym (c .before .is-misused .ensures) ∙ c .if5 .left)
+returns-6 c = let e = c .before .before .before .before in rw (le-ltb _ 1 (e .before .before .if1 .left), le-ltb 12 _ (e .before .if2 .left), le-ltb 3 _ (e .if3 .left), sym (c .before .before .before .is-outside .ensures) ∙ c .before .before .if4 .left, sym (c .before .is-misused .ensures) ∙ c .if5 .left)
 
 pub input-refusal-spec : {M : Type 1} → statement M
 input-refusal-spec =
