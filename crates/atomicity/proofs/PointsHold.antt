@@ -8,7 +8,7 @@ use Rattle.answer.specs.Lists.{tab, someBelow, setFrom, mixFrom}
 use Rattle.answer.specs.Refusals.{unless}
 use Rattle.cache.specs.Cache.{cacheOf, storeOf, flushOf, fenceOf, evictOf}
 use Rattle.ring.specs.Ring.{freshTail, grownTail, roomTests, flushedTail, fencedTail, releasedTail}
-use Rattle.log.specs.Entries.{freshLog, isLiveSlot, appendOf, flushLogOf, endReleaseOf, persistSlot, persistFrom, fenceLogOf, evictSlotTests, evictSlotOf, pruneOf}
+use Rattle.log.specs.Entries.{wordsOf, freshLog, isLiveSlot, appendOf, flushLogOf, endReleaseOf, persistSlot, persistFrom, fenceLogOf, evictSlotTests, evictSlotOf, pruneOf}
 use Rattle.log.specs.Regions.{loggedAmong, loggedOf, goesOn, oldestRegion, isFinished}
 use Rattle.stretch.specs.Stretch.{stretchOf, holds, presentFrom, presentOf}
 use Rattle.machine.specs.Clocks.{clockAt, joinOf, raisedOf, loadRaces, logRaces, loadedOf, loggedCellOf}
@@ -57,7 +57,7 @@ rows-hold ((found gives asked) ∷ rows) holds =
 
 -- each definition that the table reaches is unfolded
 table-given : T (allGiven table)
-unfolding flatten tab someBelow setFrom mixFrom unless cacheOf storeOf flushOf fenceOf evictOf freshTail grownTail roomTests flushedTail fencedTail releasedTail freshLog isLiveSlot appendOf flushLogOf endReleaseOf persistSlot persistFrom fenceLogOf evictSlotTests evictSlotOf pruneOf loggedAmong loggedOf goesOn oldestRegion isFinished stretchOf holds presentFrom presentOf clockAt joinOf raisedOf loadRaces logRaces loadedOf loggedCellOf loadEffect logEffect storeEffect acquireEffect logReleaseEffect releaseEffect flushEffect flushLogEffect fenceEffect pruneEffect evictEffect evictLogEffect effect freshMachine startOf imageOf kindOf inputTests loadTests logTests storeTests acquireTests logReleaseTests releaseTests pruneTests stateTests after answers stepOfKind stepOf isBadHead isBadEntry hasBadEntry recoverTests recoverOf storedLogs hasLaterAcquire mayTakeEntry mayTake lowestFrom takeLast takeNext takeMany undoStart undone hasLeft numbered lent answered lastAnswered outcome recovered imaged emptyImage withEntry logged5 makes nine both tangled stale table same allGiven
+unfolding flatten tab someBelow setFrom mixFrom unless cacheOf storeOf flushOf fenceOf evictOf freshTail grownTail roomTests flushedTail fencedTail releasedTail wordsOf freshLog isLiveSlot appendOf flushLogOf endReleaseOf persistSlot persistFrom fenceLogOf evictSlotTests evictSlotOf pruneOf loggedAmong loggedOf goesOn oldestRegion isFinished stretchOf holds presentFrom presentOf clockAt joinOf raisedOf loadRaces logRaces loadedOf loggedCellOf loadEffect logEffect storeEffect acquireEffect logReleaseEffect releaseEffect flushEffect flushLogEffect fenceEffect pruneEffect evictEffect evictLogEffect effect freshMachine startOf imageOf kindOf inputTests loadTests logTests storeTests acquireTests logReleaseTests releaseTests pruneTests stateTests after answers stepOfKind stepOf isBadHead isBadEntry hasBadEntry recoverTests recoverOf storedLogs hasLaterAcquire mayTakeEntry mayTake lowestFrom takeLast takeNext takeMany undoStart undone hasLeft numbered lent answered lastAnswered outcome recovered imaged emptyImage withEntry logged5 makes nine both tangled stale table same allGiven
 table-given = tt
 
 -- what document 01 asks of P1 to P11 is what the definitions give

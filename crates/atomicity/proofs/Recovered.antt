@@ -15,7 +15,7 @@ use Rattle.answer.specs.Lists.{tab, someBelow}
 use Rattle.answer.proofs.BelowLaws.{none-someBelow}
 use Rattle.answer.proofs.ListLaws.{length-tab, getD-tab, map-tab}
 use Rattle.cache.proofs.CacheLaws as CacheLaws
-use Rattle.log.specs.Entries.{syncCount, kindOf, placeOf, valueOf}
+use Rattle.log.specs.Entries.{syncCount, kindOf, placeOf, valueOf, wordsOf}
 use Rattle.stretch.specs.Stretch.{imageWords, headsAt, stretchOf, kindAt, placeAt, valueAt, presentOf}
 use Rattle.log.specs.declared.Event.{Event}
 use Rattle.log.specs.declared.Event.the-variants.{Empty, Store, Acquire, Release}
@@ -126,15 +126,15 @@ module _ {start : List ℕ} {machine : Machine} {history : List Fed} (whole : Wh
   world = whole .world
 
   -- the image holds the persisted cells, the heads and the persisted words of each log
-  pub reads : Reads image (machine .cache .persisted) (λ thread. logAt (machine .logs) thread .head .0) (λ thread. logAt (machine .logs) thread .persisted)
+  pub reads : Reads image (machine .cache .persisted) (λ thread. logAt (machine .logs) thread .head .0) (λ thread. wordsOf (logAt (machine .logs) thread .persisted))
   unfolding imageOf
-  reads = logs-read (machine .cache .persisted) (machine .logs) noLog (world .cacheSized .persisted-long) (world .sized .logs) (λ thread inRange. world .logs thread inRange .persistedWords)
+  reads = logs-read (machine .cache .persisted) (machine .logs) noLog (world .cacheSized .persisted-long) (world .sized .logs) (λ thread inRange. world .logs thread inRange .persistedSlots)
 
   stored-in : (thread : ℕ) → thread < 4 → thread < length (storedLogs image)
   unfolding storedLogs
   stored-in thread inRange = simp length-tab inRange
 
-  stored-is : (thread : ℕ) → thread < 4 → storedLog (storedLogs image) thread ≡ record { head = logAt (machine .logs) thread .head .0; stretch = logAt (machine .logs) thread .persisted }
+  stored-is : (thread : ℕ) → thread < 4 → storedLog (storedLogs image) thread ≡ record { head = logAt (machine .logs) thread .head .0; stretch = wordsOf (logAt (machine .logs) thread .persisted) }
   unfolding storedLogs
   stored-is thread inRange =
       getD-tab 4 (λ t. record { head = getD image (headsAt + t) 0; stretch = stretchOf image t }) thread (record { head = 0; stretch = [] }) inRange ∙
@@ -147,7 +147,7 @@ module _ {start : List ℕ} {machine : Machine} {history : List Fed} (whole : Wh
   unfolding undoStart storedLogs
   left-length = simp (length-map, length-tab)
 
-  left-is : (thread : ℕ) → thread < 4 → leftOf left thread ≡ presentOf (logAt (machine .logs) thread .persisted) (logAt (machine .logs) thread .head .0)
+  left-is : (thread : ℕ) → thread < 4 → leftOf left thread ≡ presentOf (wordsOf (logAt (machine .logs) thread .persisted)) (logAt (machine .logs) thread .head .0)
   unfolding undoStart
   left-is thread inRange =
       getD-mapped (λ (log : StoredLog). presentOf (log .stretch) (log .head)) (storedLogs image) thread (record { head = 0; stretch = [] }) 0 (stored-in thread inRange) ∙
@@ -191,7 +191,7 @@ module _ {start : List ℕ} {machine : Machine} {history : List Fed} (whole : Wh
       omega arith
 
   -- the words of a present entry are those of what the thread logged
-  words-at : (thread index : ℕ) → index < leftOf left thread → WordsAre (logAt (machine .logs) thread .persisted) (logAt (machine .logs) thread .head .0 + index) (ghost .event thread (logAt (machine .logs) thread .head .0 + index))
+  words-at : (thread index : ℕ) → index < leftOf left thread → WordsAre (wordsOf (logAt (machine .logs) thread .persisted)) (logAt (machine .logs) thread .head .0 + index) (ghost .event thread (logAt (machine .logs) thread .head .0 + index))
   words-at thread index isLeft =
       let inRange = left-thread thread index isLeft in
       presents thread inRange .presentIs index (rw (← left-is thread inRange) isLeft)

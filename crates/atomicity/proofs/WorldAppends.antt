@@ -3,8 +3,8 @@ use Prim.Native.Nat.{ℕ, suc, _+_, _-_, _≤_, _<_}
 use native.Mathlib.Decide.{decLt, ℕ-discrete}
 use native.Mathlib.Omega.{arith}
 use mathlib.Core.Path.{_≡_, refl, sym, ap, _∙_, subst}
-use mathlib.Core.Bool.{Bool, true, false, cond, true≢false}
-use mathlib.Core.List.{List, [], _∷_}
+use mathlib.Core.Bool.{true, false, cond, _||_, true≢false}
+use mathlib.Core.List.{List, _∷_}
 use mathlib.Core.Logic.{_⊎_, inl, inr, ⊎-elim, by-cases}
 use lib.ListN.{length, getD, set}
 use lib.Seq.{getD-set-same, getD-set-other}
@@ -12,38 +12,40 @@ use lib.Dec.{eqb}
 use borrow.Author.Tests.{eq-eqb, ne-eqb}
 use Rattle.answer.proofs.RefusalLaws.{AllFail}
 use Rattle.cache.specs.Cache.{cachedAt}
-use Rattle.log.specs.Entries.{syncCount, appendTests, appendOf, closesOf}
-use Rattle.log.specs.Regions.{isAcquire, isRelease}
+use Rattle.log.specs.Entries.{syncCount, kindOf, appendTests, appendOf, closesOf}
+use Rattle.log.specs.Regions.{isRelease}
 use Rattle.ring.specs.Ring.{grownTail, closedBy}
 use Rattle.log.specs.declared.Event.{Event}
 use Rattle.log.specs.declared.Event.the-variants.{Empty, Store, Acquire, Release}
 use Rattle.log.specs.declared.Log.{Log}
+use Rattle.log.specs.declared.SyncCount.{SyncCount}
 use Rattle.ring.specs.declared.Releasing.the-variants.{Nothing, Lock}
 use Rattle.log.proofs.LogInvariant.{LogHolds, withEvent, append-holds}
-use Rattle.log.proofs.LoggedLaws.{EndedAfter, logged-nowhere}
-use Rattle.machine.specs.Clocks.{loggedCellOf, logRaces}
+use Rattle.log.proofs.LoggedLaws.{logged-nowhere}
+use Rattle.machine.specs.Clocks.{loggedCellOf}
 use Rattle.machine.specs.Effects.{logEffect, acquireEffect, logReleaseEffect, effect}
-use Rattle.machine.specs.Holds.{noLock, logOf, lockOf}
+use Rattle.machine.specs.Holds.{noLock, lockOf}
 use Rattle.machine.specs.Kinds.{LOG, ACQUIRE, LOGREL}
-use Rattle.machine.specs.declared.Holder.the-variants.{Nobody, Thread}
+use Rattle.machine.specs.declared.Accesses.{Accesses}
+use Rattle.machine.specs.declared.Clock.{Clock}
+use Rattle.machine.specs.declared.Holder.the-variants.{Thread}
 use Rattle.machine.specs.declared.Lock.{Lock as LockState}
 use Rattle.machine.specs.declared.Machine.{Machine}
-use Rattle.machine.proofs.Asked.{log-asked, acquire-asked, log-release-asked}
+use Rattle.machine.proofs.Asked.{LogAsked, log-asked, acquire-asked, log-release-asked}
 use Rattle.machine.proofs.Sizes.{Sized, effect-sized}
 use Rattle.machine.proofs.StepLaws.{testsOf}
 use Rattle.atomicity.specs.History.{Fed, stepAt}
 use Rattle.atomicity.specs.Races.{Conflict}
-use Rattle.atomicity.specs.HappensBefore.{HappensBefore}
-use Rattle.atomicity.proofs.Logged.{Entries, Made, Is, IsAcquireOf, Appends, new-is}
-use Rattle.atomicity.proofs.Locks.{Locks, LocksHold, AppendLocks, locks-append, prunes-append}
+use Rattle.atomicity.proofs.Logged.{Entries, Made, Is, Appends, new-is}
+use Rattle.atomicity.proofs.Locks.{AppendLocks, locks-append, prunes-append}
 use Rattle.atomicity.proofs.Leads as Order
 use Rattle.atomicity.proofs.Leads.{Leads}
 use Rattle.atomicity.proofs.Cells.{Version, Chain, linked, unlogged, NewestLeads, none-older, leads-to, NoBoundaryAfter, CellsHold, LogsCell, cells-log, cells-boundary}
 use Rattle.atomicity.proofs.Follows.{Follows}
 use Rattle.atomicity.proofs.HistoryRuns.{tookStep}
-use Rattle.atomicity.proofs.Places.{PlacesHold, NewPlace, thenFed, madeBy, lastOf, makes, made-new, step-before, step-new, last-before, places-step, before-leads}
+use Rattle.atomicity.proofs.Places.{PlacesHold, thenFed, madeBy, lastOf, makes, made-new, step-before, step-new, last-before, places-step, before-leads}
 use Rattle.atomicity.proofs.RaceLaw.{log-decides}
-use Rattle.atomicity.proofs.Times.{Formed, aStore, anAcquire, aRelease, TimesHold, LogStep, MakesEntry, times-append}
+use Rattle.atomicity.proofs.Times.{Formed, aStore, anAcquire, aRelease, times-append}
 use Rattle.atomicity.proofs.Views.{setAt, setAt-here, setAt-other, logAt, viewOf, by-log, log-same, log-other, eventsThen, timesThen, append-view}
 use Rattle.atomicity.proofs.World.{Ghost, World, HeadAt, at-start, after-release, at-acquire, entriesOf, locksOf, contentsOf}
 
@@ -61,17 +63,35 @@ head-append {old} {new} appends other positive within (at-acquire less begins) =
     (rw (appends .headSame other) (still .below))
     (rw (appends .headSame other, appends .grows .saysSame other (old .head other) made) begins)
 
--- a step of this kind by the thread makes an entry of it and of no other
-makes-self : (kind thread place value : ℕ) → (kind ≡ 2) ⊎ ((kind ≡ 4) ⊎ (kind ≡ 5)) → makes (record { kind = kind; thread = thread; place = place; value = value; accepted = true }) thread ≡ true
-makes-self kind thread place value isKind =
-    rw (eq-eqb thread thread refl)
-    (⊎-elim
-    (λ two. rw two)
-    (λ more. ⊎-elim (λ four. rw four) (λ five. rw five) more)
-    isKind)
+-- what a new entry leaves of a lock: its holder and its counts; who holds it now held it, or acquired it just now
+record LockKept (thread : ℕ) (event : Event) (lock : ℕ) (was now : LockState) : Type 0 where
+  holderKept : {other : ℕ} → was .holder ≡ Thread other → now .holder ≡ Thread other
+  countSame : now .count .0 ≡ was .count .0
+  prunedSame : now .pruned .0 ≡ was .pruned .0
+  holderCases : {other : ℕ} → now .holder ≡ Thread other → (was .holder ≡ Thread other) ⊎ ((other ≡ thread) × (event ≡ Acquire lock (syncCount (was .count .0))))
 
-makes-other : (kind thread place value other : ℕ) → (other ≡ thread → ⊥) → makes (record { kind = kind; thread = thread; place = place; value = value; accepted = true }) other ≡ false
-makes-other kind thread place value other differs = rw (ne-eqb thread other (λ same. differs (sym same)))
+-- a lock that is as it was
+same-lock : {thread : ℕ} {event : Event} {lock : ℕ} {state : LockState} → LockKept thread event lock state state
+same-lock = record {
+  holderKept = λ isHeld. isHeld;
+  countSame = refl;
+  prunedSame = refl;
+  holderCases = λ isHeld. inl isHeld;
+}
+
+-- what a step that makes an entry must show: its kind, what the entry says of its cell or its lock, and what it leaves of the locks
+record AppendStep (machine : Machine) (thread kind place : ℕ) (event : Event) (locks : List LockState) : Type 0 where
+  -- 2 LOG, 4 ACQUIRE or 5 LOGREL
+  isKind : (eqb kind 2 || (eqb kind 4 || eqb kind 5)) ≡ true
+  notReleasing : logAt (machine .logs) thread .tail .releasing ≡ Nothing
+  isFormed : Formed event
+  isLog : {cell old : ℕ} → event ≡ Store cell old → (kind ≡ 2) × (place ≡ cell)
+  isAcquire : kind ≡ 4 → event ≡ Acquire place (lockOf machine place .count)
+  acquireHas : {lock : ℕ} {count : SyncCount} → event ≡ Acquire lock count → count ≡ lockOf machine lock .count
+  releaseHas : {lock : ℕ} {count : SyncCount} → event ≡ Release lock count → (count ≡ lockOf machine lock .count) × (lockOf machine lock .holder ≡ Thread thread)
+  -- the thread then releases a lock only by this RELEASE
+  closes : {lock : ℕ} → closedBy Nothing (closesOf event) ≡ Lock lock → event ≡ Release lock (lockOf machine lock .count)
+  lockKept : (lock : ℕ) → LockKept thread event lock (lockOf machine lock) (getD locks lock noLock)
 
 module _ {start : List ℕ} {machine : Machine} {history : List Fed} {ghost : Ghost} (world : World start machine history ghost) (thread : ℕ) (inRange : thread < 4) (event : Event) (room : AllFail (appendTests (logAt (machine .logs) thread))) where
   abbrev log : Log
@@ -122,19 +142,101 @@ module _ {start : List ℕ} {machine : Machine} {history : List Fed} {ghost : Gh
       (let counted = world .places .nextIs thread inRange in
       rw isMade (omega arith))
 
-  pub next-new : (fed : Fed) → makes fed thread ≡ true → ((other : ℕ) → (other ≡ thread → ⊥) → makes fed other ≡ false) → (other : ℕ) → other < 4 → entriesThen .next other ≡ cond (makes fed other) 1 0 + logAt (machine .logs) other .tail .next .0
-  next-new fed isMade notMade other within =
-      by-cases
-      (ℕ-discrete other thread)
-      (λ same. rw (same, isMade) (let more = appends .nextMore in omega arith))
-      (λ differs. rw (notMade other differs) (let kept = appends .nextOther other differs in omega arith))
-
   pub releasing-append : logAt logsThen thread .tail .releasing ≡ closedBy (log .tail .releasing) (closesOf event)
   unfolding appendOf grownTail
   releasing-append = ap (λ (l : Log). l .tail .releasing) (log-same (machine .logs) thread (appendOf log event) inLogs)
 
   pub releasing-other : (other : ℕ) → (other ≡ thread → ⊥) → logAt logsThen other .tail .releasing ≡ logAt (machine .logs) other .tail .releasing
   releasing-other other differs = ap (λ (l : Log). l .tail .releasing) (log-other (machine .logs) thread other (appendOf log event) differs)
+
+  module _ {kind place : ℕ} (value : ℕ) {locks : List LockState} (step : AppendStep machine thread kind place event locks) where
+    -- the step, accepted
+    abbrev fed : Fed
+    fed = record { kind = kind; thread = thread; place = place; value = value; accepted = true }
+
+    -- the step makes an entry of its thread
+    is-made : makes fed thread ≡ true
+    is-made = rw (eq-eqb thread thread refl) (step .isKind)
+
+    -- the step's last LSN is the new entry's
+    last-append : lastOf (thenFed history fed) (length history) ≡ log .tail .next .0
+    last-append = rw (step-new history fed) (last-new fed is-made)
+
+    -- the next LSN of each thread counts the entry that the step makes of it
+    next-append : (other : ℕ) → other < 4 → entriesThen .next other ≡ cond (makes fed other) 1 0 + logAt (machine .logs) other .tail .next .0
+    next-append other within =
+        by-cases
+        (ℕ-discrete other thread)
+        (λ same. rw (same, is-made) (let more = appends .nextMore in omega arith))
+        (λ differs. rw (ne-eqb thread other (λ same. differs (sym same))) (let kept = appends .nextOther other differs in omega arith))
+
+    -- the places after the step
+    places-append : PlacesHold (thenFed history fed) entriesThen (λ lock. getD locks lock noLock .count .0)
+    places-append =
+        places-step
+        {fed = fed}
+        (record {
+          grows = appends .grows;
+          thread = λ isAccepted. inRange;
+          nextNew = next-append;
+          countGrows = λ lock. rw (step .lockKept lock .countSame) (omega arith);
+          newRelease = λ isAccepted isKind. absurd (true≢false (sym (rw isKind at (step .isKind))));
+          newAcquire = λ isAccepted isKind. rw (last-new fed is-made, ← step .isAcquire isKind) (new-is appends);
+        })
+        (world .places)
+
+    -- the machine after the step, with these clocks and accesses
+    abbrev machineThen : List Clock → List Clock → Accesses → Machine
+    machineThen clocks lockClocks accesses = record {
+      cache = machine .cache;
+      logs = logsThen;
+      clocks = clocks;
+      «lock_clocks» = lockClocks;
+      locks = locks;
+      accesses = accesses;
+    }
+
+    -- a step that makes an entry keeps what holds of a machine and its history, given the sizes and the cells after it
+    world-append : {clocks lockClocks : List Clock} {accesses : Accesses} {versions : ℕ → List Version} → Sized (machineThen clocks lockClocks accesses) → CellsHold entriesThen (contentsOf start (machine .cache)) versions → World start (machineThen clocks lockClocks accesses) (thenFed history fed) (record { event = eventThen; time = timeThen; versions = versions })
+    world-append {clocks} {lockClocks} {accesses} sized cells =
+        let appendLocks : AppendLocks (entriesOf machine ghost) entriesThen (length history) thread event (locksOf machine) (locksOf (machineThen clocks lockClocks accesses)) = record {
+          appends = appends;
+          past = world .times .past;
+          headNext = holds .headNext;
+          notReleasing = step .notReleasing;
+          releasingOther = releasing-other;
+          holderKept = λ {other} {lock} isHeld. step .lockKept lock .holderKept isHeld;
+          countSame = λ lock. step .lockKept lock .countSame;
+          prunedSame = λ lock. step .lockKept lock .prunedSame;
+          releaseCount = λ says. ap (λ (c : SyncCount). c .0) (step .releaseHas says .0);
+          releaseHeld = λ says. step .releaseHas says .1;
+          releaseWaits = λ says. releasing-append ∙ ap (λ (e : Event). closedBy (log .tail .releasing) (closesOf e)) says;
+          acquireHas = λ says. ap (λ (c : SyncCount). c .0) (step .acquireHas says);
+          holderCases = λ {other} {lock} isHeld. step .lockKept lock .holderCases isHeld;
+          releasingNew = λ isReleasing. step .closes (sym (rw (step .notReleasing) at releasing-append) ∙ isReleasing);
+        } in
+        record {
+          sized = sized;
+          logs = logs-append;
+          cacheSized = world .cacheSized;
+          durableKept = world .durableKept;
+          locks = locks-append appendLocks (world .locks);
+          prunes = prunes-append appendLocks (world .locks) (world .prunes);
+          heads = heads-append;
+          cells = cells;
+          places = places-append;
+          times =
+              times-append
+              (record {
+                appends = appends;
+                isFormed = step .isFormed;
+                isLog = step .isLog;
+                isAccepted = refl;
+                isThread = refl;
+                isLast = last-append;
+              })
+              (world .times);
+        }
 
 -- a lock that is put in place is found there, and the others are as they were
 lock-same : (locks : List LockState) (lock : ℕ) (state : LockState) → lock < length locks → getD (set locks lock state) lock noLock ≡ state
@@ -150,29 +252,6 @@ by-lock P locks lock state inRange self others other =
     (ℕ-discrete other lock)
     (λ same. subst (λ (l : ℕ). P l (getD (set locks lock state) l noLock)) (sym same) (rw (lock-same locks lock state inRange) self))
     (λ differs. rw (lock-other locks lock other state differs) (others other differs))
-
--- two entries of different kinds are not the same
-acquire-release : {A : Type 0} {event : Event} {lock other count larger : ℕ} → event ≡ Acquire lock (syncCount count) → event ≡ Release other (syncCount larger) → A
-acquire-release one another = let never : _≡_ {A = ℕ} 0 1 = cc in absurd (omega arith)
-
-store-release : {A : Type 0} {event : Event} {cell old other larger : ℕ} → event ≡ Store cell old → event ≡ Release other (syncCount larger) → A
-store-release one another = let never : _≡_ {A = ℕ} 0 1 = cc in absurd (omega arith)
-
-store-acquire : {A : Type 0} {event : Event} {cell old other larger : ℕ} → event ≡ Store cell old → event ≡ Acquire other (syncCount larger) → A
-store-acquire one another = let never : _≡_ {A = ℕ} 0 1 = cc in absurd (omega arith)
-
--- the lock and count of an ACQUIRE, or of a RELEASE
-acquire-lock : {lock other count larger : ℕ} → _≡_ {A = Event} (Acquire lock (syncCount count)) (Acquire other (syncCount larger)) → lock ≡ other
-acquire-lock same = cc
-
-acquire-count : {lock other count larger : ℕ} → _≡_ {A = Event} (Acquire lock (syncCount count)) (Acquire other (syncCount larger)) → count ≡ larger
-acquire-count {count} {larger} same = let counts : syncCount count ≡ syncCount larger = cc in ap (λ x. x .0) counts
-
-release-lock : {lock other count larger : ℕ} → _≡_ {A = Event} (Release lock (syncCount count)) (Release other (syncCount larger)) → lock ≡ other
-release-lock same = cc
-
-release-count : {lock other count larger : ℕ} → _≡_ {A = Event} (Release lock (syncCount count)) (Release other (syncCount larger)) → count ≡ larger
-release-count {count} {larger} same = let counts : syncCount count ≡ syncCount larger = cc in ap (λ x. x .0) counts
 
 module _ {start : List ℕ} {machine : Machine} {history : List Fed} {ghost : Ghost} (world : World start machine history ghost) (thread place value : ℕ) where
   -- what entries said and when, after the thread made one more
@@ -191,84 +270,27 @@ module _ {start : List ℕ} {machine : Machine} {history : List Fed} {ghost : Gh
   unfolding effect acquireEffect
   world-acquire fails =
       let asked = acquire-asked machine thread place value fails in
-      let inLocks : place < length (machine .locks) = rw (world .sized .locks) (asked .inLock) in
       let held : LockState = record { holder = Thread thread; count = lockOf machine place .count; pruned = lockOf machine place .pruned } in
-      let after = effect machine ACQUIRE thread place value .machine in
-      let appended = appends world thread (asked .inThread) acquireEntry (asked .room) in
-      let isMade = makes-self 4 thread place value (inr (inl refl)) in
-      let countSame = by-lock (λ other state. state .count .0 ≡ lockOf machine other .count .0) (machine .locks) place held inLocks refl (λ other differs. refl) in
-      let step : AppendLocks (entriesOf machine ghost) (entriesThen world thread (asked .inThread) acquireEntry (asked .room)) (length history) thread acquireEntry (locksOf machine) (locksOf after) = record {
-        appends = appended;
-        past = world .times .past;
-        headNext = world .logs thread (asked .inThread) .headNext;
-        notReleasing = asked .notReleasing;
-        releasingOther = releasing-other world thread (asked .inThread) acquireEntry (asked .room);
-        holderKept = λ {other} {lock} isHeld.
-            by-lock
-            (λ l state. lockOf machine l .holder ≡ Thread other → state .holder ≡ Thread other)
-            (machine .locks)
-            place
-            held
-            inLocks
-            (λ wasHeld. let free = asked .isFree in let never : _≡_ {A = ℕ} 0 1 = cc in absurd (omega arith))
-            (λ l differs wasHeld. wasHeld)
-            lock
-            isHeld;
-        countSame = countSame;
-        prunedSame = by-lock (λ other state. state .pruned .0 ≡ lockOf machine other .pruned .0) (machine .locks) place held inLocks refl (λ other differs. refl);
-        releaseCount = λ says. acquire-release refl says;
-        releaseHeld = λ says. acquire-release refl says;
-        releaseWaits = λ says. acquire-release refl says;
-        acquireHas = λ {lock} {count} says. sym (acquire-count says) ∙ ap (λ (l : ℕ). lockOf machine l .count .0) (acquire-lock says);
-        holderCases = λ {other} {lock} isHeld.
-            by-lock
-            (λ l state. state .holder ≡ Thread other → (lockOf machine l .holder ≡ Thread other) ⊎ ((other ≡ thread) × (acquireEntry ≡ Acquire l (syncCount (lockOf machine l .count .0)))))
-            (machine .locks)
-            place
-            held
-            inLocks
-            (λ nowHeld. inr ((cc), refl))
-            (λ l differs nowHeld. inl nowHeld)
-            lock
-            isHeld;
-        releasingNew = λ {lock} isReleasing.
-            let now = releasing-append world thread (asked .inThread) acquireEntry (asked .room) in
-            let was = asked .notReleasing in
-            let never : _≡_ {A = ℕ} 0 1 = cc in
-            absurd (omega arith);
+      let taken : LockKept thread acquireEntry place (lockOf machine place) held = record {
+        holderKept = λ wasHeld. cc;
+        countSame = refl;
+        prunedSame = refl;
+        holderCases = λ nowHeld. inr ((cc), refl);
       } in
-      record {
-        sized = effect-sized machine (world .sized) ACQUIRE thread place value fails;
-        logs = logs-append world thread (asked .inThread) acquireEntry (asked .room);
-        cacheSized = world .cacheSized;
-        durableKept = world .durableKept;
-        locks = locks-append step (world .locks);
-        prunes = prunes-append step (world .locks) (world .prunes);
-        heads = heads-append world thread (asked .inThread) acquireEntry (asked .room);
-        cells = cells-boundary appended (inl refl) (λ cell old says. store-acquire says refl) (world .cells);
-        places =
-            places-step
-            (record {
-              grows = appended .grows;
-              thread = λ isAccepted. asked .inThread;
-              nextNew = next-new world thread (asked .inThread) acquireEntry (asked .room) (tookStep ACQUIRE thread place value) isMade (makes-other 4 thread place value);
-              countGrows = λ lock. rw (countSame lock) (omega arith);
-              newRelease = λ isAccepted isKind. absurd (omega arith);
-              newAcquire = λ isAccepted isKind. rw (last-new world thread (asked .inThread) acquireEntry (asked .room) (tookStep ACQUIRE thread place value) isMade) (new-is appended);
-            })
-            (world .places);
-        times =
-            times-append
-            (record {
-              appends = appended;
-              isFormed = anAcquire (asked .inLock);
-              isLog = λ says. store-acquire says refl;
-              isAccepted = refl;
-              isThread = refl;
-              isLast = rw (step-new history (tookStep ACQUIRE thread place value)) (last-new world thread (asked .inThread) acquireEntry (asked .room) (tookStep ACQUIRE thread place value) isMade);
-            })
-            (world .times);
-      }
+      let step : AppendStep machine thread 4 place acquireEntry (set (machine .locks) place held) = record {
+        isKind = refl;
+        notReleasing = asked .notReleasing;
+        isFormed = anAcquire (asked .inLock);
+        isLog = λ says. ((cc), (cc));
+        isAcquire = λ isKind. refl;
+        acquireHas = λ says. cc;
+        releaseHas = λ says. ((cc), (cc));
+        closes = λ closes. cc;
+        lockKept = by-lock (λ lock state. LockKept thread acquireEntry lock (lockOf machine lock) state) (machine .locks) place held (rw (world .sized .locks) (asked .inLock)) taken (λ other differs. same-lock);
+      } in
+      world-append world thread (asked .inThread) acquireEntry (asked .room) value step
+      (effect-sized machine (world .sized) ACQUIRE thread place value fails)
+      (cells-boundary (appends world thread (asked .inThread) acquireEntry (asked .room)) (inl refl) (λ cell old says. omega (arith, ap kindOf says)) (world .cells))
 
   -- LOGREL's entry
   abbrev pub releaseEntry : Event
@@ -278,60 +300,22 @@ module _ {start : List ℕ} {machine : Machine} {history : List Fed} {ghost : Gh
   unfolding effect logReleaseEffect
   world-log-release fails =
       let asked = log-release-asked machine thread place value fails in
-      let after = effect machine LOGREL thread place value .machine in
-      let appended = appends world thread (asked .inThread) releaseEntry (asked .room) in
-      let isMade = makes-self 5 thread place value (inr (inr refl)) in
-      let now = releasing-append world thread (asked .inThread) releaseEntry (asked .room) in
-      let step : AppendLocks (entriesOf machine ghost) (entriesThen world thread (asked .inThread) releaseEntry (asked .room)) (length history) thread releaseEntry (locksOf machine) (locksOf after) = record {
-        appends = appended;
-        past = world .times .past;
-        headNext = world .logs thread (asked .inThread) .headNext;
+      let step : AppendStep machine thread 5 place releaseEntry (machine .locks) = record {
+        isKind = refl;
         notReleasing = asked .notReleasing;
-        releasingOther = releasing-other world thread (asked .inThread) releaseEntry (asked .room);
-        holderKept = λ isHeld. isHeld;
-        countSame = λ lock. refl;
-        prunedSame = λ lock. refl;
-        releaseCount = λ {lock} {count} says. sym (release-count says) ∙ ap (λ (l : ℕ). lockOf machine l .count .0) (release-lock says);
-        releaseHeld = λ {lock} {count} says. rw (← release-lock says) (asked .isHeldBySelf);
-        releaseWaits = λ {lock} {count} says. now ∙ ap Lock (release-lock says);
-        acquireHas = λ says. acquire-release says refl;
-        holderCases = λ isHeld. inl isHeld;
-        releasingNew = λ {lock} isReleasing. let same : place ≡ lock = cc in ap (λ (l : ℕ). Release l (lockOf machine l .count)) same;
+        isFormed = aRelease (asked .inLock);
+        isLog = λ says. ((cc), (cc));
+        isAcquire = λ isKind. cc;
+        acquireHas = λ says. cc;
+        releaseHas = λ says. ((cc), (cc));
+        closes = λ closes. cc;
+        lockKept = λ lock. same-lock;
       } in
-      record {
-        sized = effect-sized machine (world .sized) LOGREL thread place value fails;
-        logs = logs-append world thread (asked .inThread) releaseEntry (asked .room);
-        cacheSized = world .cacheSized;
-        durableKept = world .durableKept;
-        locks = locks-append step (world .locks);
-        prunes = prunes-append step (world .locks) (world .prunes);
-        heads = heads-append world thread (asked .inThread) releaseEntry (asked .room);
-        cells = cells-boundary appended (inr refl) (λ cell old says. store-release says refl) (world .cells);
-        places =
-            places-step
-            (record {
-              grows = appended .grows;
-              thread = λ isAccepted. asked .inThread;
-              nextNew = next-new world thread (asked .inThread) releaseEntry (asked .room) (tookStep LOGREL thread place value) isMade (makes-other 5 thread place value);
-              countGrows = λ lock. omega arith;
-              newRelease = λ isAccepted isKind. absurd (omega arith);
-              newAcquire = λ isAccepted isKind. absurd (omega arith);
-            })
-            (world .places);
-        times =
-            times-append
-            (record {
-              appends = appended;
-              isFormed = aRelease (asked .inLock);
-              isLog = λ says. store-release says refl;
-              isAccepted = refl;
-              isThread = refl;
-              isLast = rw (step-new history (tookStep LOGREL thread place value)) (last-new world thread (asked .inThread) releaseEntry (asked .room) (tookStep LOGREL thread place value) isMade);
-            })
-            (world .times);
-      }
+      world-append world thread (asked .inThread) releaseEntry (asked .room) value step
+      (effect-sized machine (world .sized) LOGREL thread place value fails)
+      (cells-boundary (appends world thread (asked .inThread) releaseEntry (asked .room)) (inr refl) (λ cell old says. omega (arith, ap kindOf says)) (world .cells))
 
-  -- LOG's entry, and the cell's versions with it
+  -- LOG's entry, and the cell's versions and the entries with it
   abbrev pub storeEntry : Event
   storeEntry = Store place (cachedAt (machine .cache) place)
 
@@ -342,11 +326,14 @@ module _ {start : List ℕ} {machine : Machine} {history : List Fed} {ghost : Gh
       place
       (record { thread = thread; lsn = logAt (machine .logs) thread .tail .next .0; after = cachedAt (machine .cache) place } ∷ ghost .versions place)
 
+  abbrev pub loggedEntries : Entries
+  loggedEntries = viewOf (set (machine .logs) thread (appendOf (logAt (machine .logs) thread) storeEntry)) (ghostThen storeEntry loggedVersions .event) (ghostThen storeEntry loggedVersions .time)
+
   -- no entry is empty
   formed-not-empty : {event : Event} → Formed event → event ≡ Empty → ⊥
-  formed-not-empty (aStore inRange) isEmpty = let never : _≡_ {A = ℕ} 0 1 = cc in omega arith
-  formed-not-empty (anAcquire inRange) isEmpty = let never : _≡_ {A = ℕ} 0 1 = cc in omega arith
-  formed-not-empty (aRelease inRange) isEmpty = let never : _≡_ {A = ℕ} 0 1 = cc in omega arith
+  formed-not-empty (aStore inRange) isEmpty = omega (arith, ap kindOf isEmpty)
+  formed-not-empty (anAcquire inRange) isEmpty = omega (arith, ap kindOf isEmpty)
+  formed-not-empty (aRelease inRange) isEmpty = omega (arith, ap kindOf isEmpty)
 
   -- an entry of a cell before the head has the region's boundary at the head after it
   pruned-not-current : {number cell old : ℕ} → thread < 4 → Is (entriesOf machine ghost) thread number (Store cell old) → NoBoundaryAfter (entriesOf machine ghost) thread number → number < logAt (machine .logs) thread .head .0 → ⊥
@@ -368,89 +355,68 @@ module _ {start : List ℕ} {machine : Machine} {history : List Fed} {ghost : Gh
           let positive = is .made .positive in
           true≢false (sym begins ∙ none (logAt (machine .logs) thread .head .0) pruned (record { positive = omega arith; below = less }) .0)
 
-  -- the order between the same points
-  same-points : {entries : Entries} {a b c d : ℕ} (e f g h : ℕ) → a ≡ e → b ≡ f → c ≡ g → d ≡ h → Leads entries a b c d → Leads entries e f g h
-  same-points {entries} {a} {b} {c} {d} e f g h one two three four leads =
-      subst
-      (λ (x : ℕ). Leads entries x f g h)
-      one
-      (subst
-      (λ (x : ℕ). Leads entries a x g h)
-      two
-      (subst (λ (x : ℕ). Leads entries a b x h) three (subst (λ (x : ℕ). Leads entries a b c x) four leads)))
-
-  -- the cell's newest version leads to the new one: it is the thread's own, or it would race
-  newest-ordered : Follows machine history → thread < 4 → place < 128 → logRaces machine thread place ≡ false → {entries : Entries} {counts : ℕ → ℕ} → PlacesHold (thenFed history (tookStep LOG thread place 0)) entries counts → lastOf (thenFed history (tookStep LOG thread place 0)) (length history) ≡ logAt (machine .logs) thread .tail .next .0 → {versions : List Version} {first : ℕ} → Chain (entriesOf machine ghost) first place versions → NewestLeads entries thread (logAt (machine .logs) thread .tail .next .0) versions
-  newest-ordered follows inThread inCell noRace places isLast unlogged = none-older
-  newest-ordered follows inThread inCell noRace {entries} places isLast (linked {version} link chain) =
-      let fed = tookStep LOG thread place 0 in
-      let next = logAt (machine .logs) thread .tail .next .0 in
-      let at = ghost .time (version .thread) (version .lsn) in
-      let past : at < length history = world .times .past (version .thread) (version .lsn) (link .says .made) in
-      let made = world .times .logStep (link .says) in
-      let old : stepAt (thenFed history fed) at ≡ stepAt history at = step-before history fed past in
-      let new : stepAt (thenFed history fed) (length history) ≡ fed = step-new history fed in
-      let wasThread : stepAt (thenFed history fed) at .thread ≡ version .thread = ap (λ (s : Fed). s .thread) old ∙ made .isThread in
-      let nowThread : stepAt (thenFed history fed) (length history) .thread ≡ thread = ap (λ (s : Fed). s .thread) new in
-      leads-to
-      (by-cases
-      (ℕ-discrete (version .thread) thread)
-      (λ same.
-      let below = link .says .made .below in
-      let here : logAt (machine .logs) (version .thread) .tail .next .0 ≡ next = ap (λ (t : ℕ). logAt (machine .logs) t .tail .next .0) same in
-      subst (λ (t : ℕ). Leads entries (version .thread) (version .lsn) t next) same (Order.inThread (omega arith)))
-      (λ differs.
-      let conflict : Conflict (thenFed history fed) at (length history) = record {
-        isEarlier = past;
-        isAccepted = ap (λ (s : Fed). s .accepted) old ∙ made .isAccepted;
-        isLaterAccepted = ap (λ (s : Fed). s .accepted) new;
-        isAccess = inr (ap (λ (s : Fed). s .kind) old ∙ made .isKind);
-        isLaterAccess = inr (ap (λ (s : Fed). s .kind) new);
-        otherThread = λ same. differs (sym wasThread ∙ (same ∙ nowThread));
-        sameCell = ap (λ (s : Fed). s .place) old ∙ (made .isCell ∙ sym (ap (λ (s : Fed). s .place) new));
-        oneIsLog = inl (ap (λ (s : Fed). s .kind) old ∙ made .isKind);
-      } in
-      let before = log-decides machine history follows thread place inThread inCell .ordered noRace at conflict in
-      same-points
-      (version .thread)
-      (version .lsn)
-      thread
-      next
-      wasThread
-      (last-before history fed past ∙ made .isLast)
-      nowThread
-      isLast
-      (before-leads places before)))
-
   -- the history, its places and the cell after a LOG; its value is 0
   module _ (follows : Follows machine history) (fails : AllFail (testsOf machine LOG thread place value)) where
-    log-is-made : makes (tookStep LOG thread place 0) thread ≡ true
-    log-is-made = makes-self 2 thread place 0 (inl refl)
+    asked : LogAsked machine thread place value
+    asked = log-asked machine thread place value fails
 
-    log-last : lastOf (thenFed history (tookStep LOG thread place 0)) (length history) ≡ logAt (machine .logs) thread .tail .next .0
-    log-last = let asked = log-asked machine thread place value fails in rw (step-new history (tookStep LOG thread place 0)) (last-new world thread (asked .inThread) storeEntry (asked .room) (tookStep LOG thread place 0) log-is-made)
+    -- what LOG shows of its entry
+    log-step : AppendStep machine thread 2 place storeEntry (machine .locks)
+    log-step = record {
+      isKind = refl;
+      notReleasing = asked .notReleasing;
+      isFormed = aStore (asked .inCell);
+      isLog = λ says. ((cc), (cc));
+      isAcquire = λ isKind. cc;
+      acquireHas = λ says. cc;
+      releaseHas = λ says. ((cc), (cc));
+      closes = λ closes. cc;
+      lockKept = λ lock. same-lock;
+    }
 
-    pub log-appends : Appends (entriesOf machine ghost) (viewOf (set (machine .logs) thread (appendOf (logAt (machine .logs) thread) storeEntry)) (ghostThen storeEntry loggedVersions .event) (ghostThen storeEntry loggedVersions .time)) (length history) thread storeEntry
-    log-appends = let asked = log-asked machine thread place value fails in appends world thread (asked .inThread) storeEntry (asked .room)
+    pub log-appends : Appends (entriesOf machine ghost) loggedEntries (length history) thread storeEntry
+    log-appends = appends world thread (asked .inThread) storeEntry (asked .room)
 
-    log-places : PlacesHold (thenFed history (tookStep LOG thread place 0)) (viewOf (set (machine .logs) thread (appendOf (logAt (machine .logs) thread) storeEntry)) (ghostThen storeEntry loggedVersions .event) (ghostThen storeEntry loggedVersions .time)) (λ lock. lockOf machine lock .count .0)
-    log-places =
-        let asked = log-asked machine thread place value fails in
-        places-step
-        (record {
-          grows = log-appends .grows;
-          thread = λ isAccepted. asked .inThread;
-          nextNew = next-new world thread (asked .inThread) storeEntry (asked .room) (tookStep LOG thread place 0) log-is-made (makes-other 2 thread place 0);
-          countGrows = λ lock. omega arith;
-          newRelease = λ isAccepted isKind. absurd (omega arith);
-          newAcquire = λ isAccepted isKind. absurd (omega arith);
-        })
-        (world .places)
+    -- the cell's newest version leads to the new one: it is the thread's own, or it would race
+    newest-ordered : {versions : List Version} {first : ℕ} → Chain (entriesOf machine ghost) first place versions → NewestLeads loggedEntries thread (logAt (machine .logs) thread .tail .next .0) versions
+    newest-ordered unlogged = none-older
+    newest-ordered (linked {version} link chain) =
+        let fed = tookStep LOG thread place 0 in
+        let next = logAt (machine .logs) thread .tail .next .0 in
+        let at = ghost .time (version .thread) (version .lsn) in
+        let past : at < length history = world .times .past (version .thread) (version .lsn) (link .says .made) in
+        let made = world .times .logStep (link .says) in
+        let old : stepAt (thenFed history fed) at ≡ stepAt history at = step-before history fed past in
+        let new : stepAt (thenFed history fed) (length history) ≡ fed = step-new history fed in
+        let wasThread : stepAt (thenFed history fed) at .thread ≡ version .thread = ap (λ (s : Fed). s .thread) old ∙ made .isThread in
+        let nowThread : stepAt (thenFed history fed) (length history) .thread ≡ thread = ap (λ (s : Fed). s .thread) new in
+        let wasLast = last-before history fed past ∙ made .isLast in
+        let isLast = last-append world thread (asked .inThread) storeEntry (asked .room) 0 log-step in
+        let places = places-append world thread (asked .inThread) storeEntry (asked .room) 0 log-step in
+        leads-to
+        (by-cases
+        (ℕ-discrete (version .thread) thread)
+        (λ same.
+        let below = link .says .made .below in
+        let here : logAt (machine .logs) (version .thread) .tail .next .0 ≡ next = ap (λ (t : ℕ). logAt (machine .logs) t .tail .next .0) same in
+        subst (λ (t : ℕ). Leads loggedEntries (version .thread) (version .lsn) t next) same (Order.inThread (omega arith)))
+        (λ differs.
+        let conflict : Conflict (thenFed history fed) at (length history) = record {
+          isEarlier = past;
+          isAccepted = ap (λ (s : Fed). s .accepted) old ∙ made .isAccepted;
+          isLaterAccepted = ap (λ (s : Fed). s .accepted) new;
+          isAccess = inr (ap (λ (s : Fed). s .kind) old ∙ made .isKind);
+          isLaterAccess = inr (ap (λ (s : Fed). s .kind) new);
+          otherThread = λ same. differs (sym wasThread ∙ (same ∙ nowThread));
+          sameCell = ap (λ (s : Fed). s .place) old ∙ (made .isCell ∙ sym (ap (λ (s : Fed). s .place) new));
+          oneIsLog = inl (ap (λ (s : Fed). s .kind) old ∙ made .isKind);
+        } in
+        let before = log-decides machine history follows thread place (asked .inThread) (asked .inCell) .ordered (asked .noRace) at conflict in
+        rw (wasLast, isLast, wasThread, nowThread) at (before-leads places before)))
 
     -- the cell has no entry in the thread's current region
     not-current : {number old : ℕ} → Is (entriesOf machine ghost) thread number (Store place old) → NoBoundaryAfter (entriesOf machine ghost) thread number → ⊥
     not-current {number} {old} is none =
-        let asked = log-asked machine thread place value fails in
         let holdsLog = world .logs thread (asked .inThread) in
         by-cases
         (decLt number (logAt (machine .logs) thread .head .0))
@@ -466,13 +432,12 @@ module _ {start : List ℕ} {machine : Machine} {history : List Fed} {ghost : Gh
         (ended .laterEnds))
 
     -- what LOG does to the cell
-    pub logs-cell : LogsCell (entriesOf machine ghost) (viewOf (set (machine .logs) thread (appendOf (logAt (machine .logs) thread) storeEntry)) (ghostThen storeEntry loggedVersions .event) (ghostThen storeEntry loggedVersions .time)) (length history) thread place (contentsOf start (machine .cache)) (ghost .versions) loggedVersions
+    pub logs-cell : LogsCell (entriesOf machine ghost) loggedEntries (length history) thread place (contentsOf start (machine .cache)) (ghost .versions) loggedVersions
     logs-cell =
-        let asked = log-asked machine thread place value fails in
         let version : Version = record { thread = thread; lsn = logAt (machine .logs) thread .tail .next .0; after = cachedAt (machine .cache) place } in
         record {
           appends = log-appends;
-          ordered = newest-ordered follows (asked .inThread) (asked .inCell) (asked .noRace) log-places log-last (world .cells .chain place);
+          ordered = newest-ordered (world .cells .chain place);
           notLogged = not-current;
           versionNew = setAt-here (ghost .versions) place (version ∷ ghost .versions place);
           versionsOther = λ other differs. setAt-other (ghost .versions) place (version ∷ ghost .versions place) other differs;
@@ -481,51 +446,7 @@ module _ {start : List ℕ} {machine : Machine} {history : List Fed} {ghost : Gh
     pub world-log : World start (effect machine LOG thread place value .machine) (thenFed history (tookStep LOG thread place value)) (ghostThen storeEntry loggedVersions)
     unfolding effect logEffect loggedCellOf
     world-log =
-        let asked = log-asked machine thread place value fails in
-        let after = effect machine LOG thread place value .machine in
-        let now = releasing-append world thread (asked .inThread) storeEntry (asked .room) in
-        let step : AppendLocks (entriesOf machine ghost) (entriesThen world thread (asked .inThread) storeEntry (asked .room)) (length history) thread storeEntry (locksOf machine) (locksOf after) = record {
-          appends = log-appends;
-          past = world .times .past;
-          headNext = world .logs thread (asked .inThread) .headNext;
-          notReleasing = asked .notReleasing;
-          releasingOther = releasing-other world thread (asked .inThread) storeEntry (asked .room);
-          holderKept = λ isHeld. isHeld;
-          countSame = λ lock. refl;
-          prunedSame = λ lock. refl;
-          releaseCount = λ says. store-release refl says;
-          releaseHeld = λ says. store-release refl says;
-          releaseWaits = λ says. store-release refl says;
-          acquireHas = λ says. store-acquire refl says;
-          holderCases = λ isHeld. inl isHeld;
-          releasingNew = λ {lock} isReleasing.
-              let was = asked .notReleasing in
-              let never : _≡_ {A = ℕ} 0 1 = cc in
-              absurd (omega arith);
-        } in
-        let made : World start after (thenFed history (tookStep LOG thread place 0)) (ghostThen storeEntry loggedVersions) = record {
-          sized = effect-sized machine (world .sized) LOG thread place value fails;
-          logs = logs-append world thread (asked .inThread) storeEntry (asked .room);
-          cacheSized = world .cacheSized;
-          durableKept = world .durableKept;
-          locks = locks-append step (world .locks);
-          prunes = prunes-append step (world .locks) (world .prunes);
-          heads = heads-append world thread (asked .inThread) storeEntry (asked .room);
-          cells = cells-log logs-cell (world .cells);
-          places = log-places;
-          times =
-              times-append
-              (record {
-                appends = log-appends;
-                isFormed = aStore (asked .inCell);
-                isLog = λ {cell} {value = old} says. (refl, (cc));
-                isAccepted = refl;
-                isThread = refl;
-                isLast = log-last;
-              })
-              (world .times);
-        } in
         subst
-        (λ (v : ℕ). World start after (thenFed history (tookStep LOG thread place v)) (ghostThen storeEntry loggedVersions))
+        (λ (v : ℕ). World start (effect machine LOG thread place value .machine) (thenFed history (tookStep LOG thread place v)) (ghostThen storeEntry loggedVersions))
         (sym (asked .noValue))
-        made
+        (world-append world thread (asked .inThread) storeEntry (asked .room) 0 log-step (effect-sized machine (world .sized) LOG thread place value fails) (cells-log logs-cell (world .cells)))

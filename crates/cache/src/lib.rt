@@ -86,7 +86,8 @@ impl Cache {
     pub fn load(self, cell: usize) -> u64
         ensures { λ r. ⌜ r ≡ cachedAt self cell ⌝ }
     {
-        if cell < CELLS { self.cached[cell] } else { 0 }
+        let contents = self.cached;
+        if cell < CELLS { contents[cell] } else { 0 }
     }
 
     // Whether a cell is durable; past the last cell none is.
@@ -96,7 +97,8 @@ impl Cache {
         if CELLS <= cell {
             return false;
         }
-        self.durable[cell]
+        let durable = self.durable;
+        durable[cell]
     }
 
     // The cell's cached content is the value, the cell is not durable, and no flush of its line is pending.
@@ -129,22 +131,16 @@ impl Cache {
     {
         if thread < THREADS {
             let cached = self.cached;
-            let mut persisted = self.persisted;
-            let mut durable = self.durable;
-            let mut pending = self.pending;
             let mut line = 0;
             while line < LINES {
                 let place = thread * LINES + line;
-                if pending[place] {
-                    copy_line(&cached, &mut persisted, line);
-                    set_line(&mut durable, line);
-                    pending[place] = false;
+                if self.pending[place] {
+                    copy_line(&cached, &mut self.persisted, line);
+                    set_line(&mut self.durable, line);
+                    self.pending[place] = false;
                 }
                 line += 1;
             }
-            self.persisted = persisted;
-            self.durable = durable;
-            self.pending = pending;
         }
         self
     }

@@ -9,7 +9,7 @@ use Rattle.answer.specs.declared.Answer.the-variants.{Accepted}
 use Rattle.ring.specs.Ring.{slotOf, growOf}
 use Rattle.ring.specs.declared.Grown.{Grown}
 use Rattle.ring.proofs.Room.{Decided, decided}
-use Rattle.log.specs.Entries.{closesOf, appendOf, appendedOf}
+use Rattle.log.specs.Entries.{entryOf, closesOf, appendOf, appendedOf}
 use Rattle.log.specs.declared.Event.{Event}
 use Rattle.log.specs.declared.Log.{Log}
 
@@ -17,7 +17,7 @@ module _ (log : Log) (event : Event) where
   -- the log with the entry, and with the record that the append left
   abbrev pub withEntry : Grown → Log
   withEntry grown = record {
-    cached = set (log .cached) (slotOf (log .tail .next .0)) (record { lsn = log .tail .next; event = event });
+    cached = set (log .cached) (slotOf (log .tail .next .0)) (record { entry = entryOf (log .tail .next) event });
     persisted = log .persisted;
     head = log .head;
     tail = grown .tail;

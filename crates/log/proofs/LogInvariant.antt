@@ -11,19 +11,21 @@ use lib.Dec.{eqb}
 use lib.ListN.{length, getD, length-set, getD-replicate}
 use lib.Seq.{getD-set-same, getD-set-other}
 use Rattle.answer.proofs.RefusalLaws.{AllFail}
-use Rattle.ring.specs.Ring.{slotCount, lastLsn, slotOf, freshTail, grownTail, roomTests, flushedTail, fencedTail, releasedTail}
-use Rattle.stretch.specs.Stretch.{entryWords, stretchWords, wordAt, holds}
+use Rattle.ring.specs.Ring.{slotCount, lastLsn, lsn, slotOf, freshTail, grownTail, roomTests, flushedTail, fencedTail, releasedTail}
+use Rattle.stretch.specs.Stretch.{entryWords, wordAt, holds}
 use Rattle.stretch.proofs.Presence.{held-word}
-use Rattle.log.specs.Entries.{untouched, freshLog, entryAt, withTail, isLiveSlot, appendTests, appendOf, flushLogOf, endReleaseOf, persistSlot, persistFrom, fenceLogOf, evictSlotOf, pruneOf}
+use Rattle.log.specs.Entries.{entryOf, untouched, zeros, slotWords, wordsOf, freshLog, entryAt, withTail, isLiveSlot, appendTests, appendOf, flushLogOf, endReleaseOf, persistSlot, persistFrom, fenceLogOf, evictSlotOf, pruneOf}
+use Rattle.log.specs.declared.CachedSlot.{CachedSlot}
 use Rattle.log.specs.declared.Event.{Event}
 use Rattle.log.specs.declared.Log.{Log}
+use Rattle.log.specs.declared.PersistedSlot.{PersistedSlot}
 use Rattle.ring.specs.declared.Tail.{Tail}
-use Rattle.log.proofs.SlotLaws.{slot-below, same-slot, live-slot, entryOf, WordsAre, length-persistSlot, persist-here, persist-other, persist-holds-other}
+use Rattle.log.proofs.SlotLaws.{slot-below, same-slot, live-slot, slot-word, WordsAre, length-persistSlot, persist-here, persist-other, persist-holds-other}
 
 -- the invariant of a log, where `events number` is what the thread's entry of that LSN says, pruned entries included
 pub record LogHolds (log : Log) (events : ℕ → Event) : Type 0 where
   pub cachedSlots : length (log .cached) ≡ slotCount
-  pub persistedWords : length (log .persisted) ≡ stretchWords
+  pub persistedSlots : length (log .persisted) ≡ slotCount
   pub headPositive : 1 ≤ log .head .0
   pub headNext : log .head .0 ≤ log .tail .next .0
   pub nextBound : log .tail .next .0 ≤ lastLsn + 1
@@ -31,9 +33,9 @@ pub record LogHolds (log : Log) (events : ℕ → Event) : Type 0 where
   pub durableFlushed : log .tail .durable .0 ≤ log .tail .flushed .0
   pub flushedNext : log .tail .flushed .0 + 1 ≤ log .tail .next .0
   pub headDurable : log .head .0 ≤ log .tail .durable .0 + 1
-  pub cachedIs : (number : ℕ) → log .head .0 ≤ number → number < log .tail .next .0 → entryAt log number ≡ entryOf number (events number)
-  pub foundIs : (number : ℕ) → log .head .0 ≤ number → number < log .head .0 + slotCount → holds (log .persisted) number ≡ true → (number < log .tail .next .0) × WordsAre (log .persisted) number (events number)
-  pub durableIs : (number : ℕ) → log .head .0 ≤ number → number ≤ log .tail .durable .0 → WordsAre (log .persisted) number (events number)
+  pub cachedIs : (number : ℕ) → log .head .0 ≤ number → number < log .tail .next .0 → entryAt log number ≡ entryOf (lsn number) (events number)
+  pub foundIs : (number : ℕ) → log .head .0 ≤ number → number < log .head .0 + slotCount → holds (wordsOf (log .persisted)) number ≡ true → (number < log .tail .next .0) × WordsAre (wordsOf (log .persisted)) number (events number)
+  pub durableIs : (number : ℕ) → log .head .0 ≤ number → number ≤ log .tail .durable .0 → WordsAre (wordsOf (log .persisted)) number (events number)
 
 -- the entries ever made, with one more
 unfoldable pub withEvent : (ℕ → Event) → ℕ → Event → ℕ → Event
@@ -51,7 +53,7 @@ pub fresh-holds : (events : ℕ → Event) → LogHolds freshLog events
 unfolding freshLog freshTail
 fresh-holds events = record {
   cachedSlots = refl;
-  persistedWords = refl;
+  persistedSlots = refl;
   headPositive = omega arith;
   headNext = omega arith;
   nextBound = omega arith;
@@ -61,8 +63,10 @@ fresh-holds events = record {
   headDurable = omega arith;
   cachedIs = λ number from to. absurd (omega arith);
   foundIs = λ number from to held.
-      let word = held-word (freshLog .persisted) number held in
-      let zeros : wordAt (freshLog .persisted) number 3 ≡ 0 = getD-replicate stretchWords (slotOf number * entryWords + 3) 0 0 (omega (arith, slot-below number)) in
+      let word = held-word (wordsOf (freshLog .persisted)) number held in
+      let none : wordAt (wordsOf (freshLog .persisted)) number 3 ≡ 0 =
+      slot-word (freshLog .persisted) (slotOf number) 3 (omega arith)
+      ∙ ap (λ slot. getD (slotWords slot) 3 0) (getD-replicate slotCount (slotOf number) zeros zeros (slot-below number)) in
       absurd (omega arith);
   durableIs = λ number from to. absurd (omega arith);
 }
@@ -73,22 +77,26 @@ unfolding roomTests
 append-room log fails =
     (leb-false (lastLsn + 1) (log .tail .next .0) (fails .0), leb-false slotCount (log .tail .next .0 - log .head .0) (fails .1 .0))
 
--- the log with other persisted words
-abbrev pub withPersisted : Log → List ℕ → Log
-withPersisted log words = record { cached = log .cached; persisted = words; head = log .head; tail = log .tail }
+-- the log with other persisted slots
+abbrev pub withPersisted : Log → List PersistedSlot → Log
+withPersisted log slots = record { cached = log .cached; persisted = slots; head = log .head; tail = log .tail }
+
+-- the slot that an append fills
+abbrev madeSlot : ℕ → Event → CachedSlot
+madeSlot number event = record { entry = entryOf (lsn number) event }
 
 module _ (log : Log) (events : ℕ → Event) (inv : LogHolds log events) where
-  append-cached : (event : Event) → log .tail .next .0 < log .head .0 + slotCount → (number : ℕ) → log .head .0 ≤ number → number < log .tail .next .0 + 1 → entryAt (appendOf log event) number ≡ entryOf number (withEvent events (log .tail .next .0) event number)
+  append-cached : (event : Event) → log .tail .next .0 < log .head .0 + slotCount → (number : ℕ) → log .head .0 ≤ number → number < log .tail .next .0 + 1 → entryAt (appendOf log event) number ≡ entryOf (lsn number) (withEvent events (log .tail .next .0) event number)
   unfolding appendOf
   append-cached event room number from to =
       let next = log .tail .next .0 in
       by-cases
       (ℕ-discrete number next)
-      (λ is. rw is (getD-set-same (log .cached) (slotOf next) (entryOf next event) untouched (omega (arith, inv .cachedSlots, slot-below next)) ∙ ap (entryOf next) (sym (withEvent-here events next event))))
+      (λ is. rw is (ap (λ (slot : CachedSlot). slot .entry) (getD-set-same (log .cached) (slotOf next) (madeSlot next event) untouched (omega (arith, inv .cachedSlots, slot-below next))) ∙ ap (entryOf (lsn next)) (sym (withEvent-here events next event))))
       (λ differs.
-      getD-set-other (log .cached) (slotOf next) (slotOf number) (entryOf next event) untouched (λ same. differs (same-slot (log .head .0) number next from (omega arith) (inv .headNext) room same))
+      ap (λ (slot : CachedSlot). slot .entry) (getD-set-other (log .cached) (slotOf next) (slotOf number) (madeSlot next event) untouched (λ same. differs (same-slot (log .head .0) number next from (omega arith) (inv .headNext) room same)))
       ∙ inv .cachedIs number from (omega arith)
-      ∙ ap (entryOf number) (sym (withEvent-other events next event number differs)))
+      ∙ ap (entryOf (lsn number)) (sym (withEvent-other events next event number differs)))
 
   pub append-holds : (event : Event) → AllFail (appendTests log) → LogHolds (appendOf log event) (withEvent events (log .tail .next .0) event)
   unfolding appendOf grownTail
@@ -98,8 +106,8 @@ module _ (log : Log) (events : ℕ → Event) (inv : LogHolds log events) where
       let same : (number : ℕ) → number < next → withEvent events next event number ≡ events number =
       λ number below. withEvent-other events next event number (omega arith) in
       record {
-        cachedSlots = length-set (log .cached) (slotOf next) (entryOf next event) ∙ inv .cachedSlots;
-        persistedWords = inv .persistedWords;
+        cachedSlots = length-set (log .cached) (slotOf next) (madeSlot next event) ∙ inv .cachedSlots;
+        persistedSlots = inv .persistedSlots;
         headPositive = inv .headPositive;
         headNext = omega arith;
         nextBound = omega arith;
@@ -115,10 +123,10 @@ module _ (log : Log) (events : ℕ → Event) (inv : LogHolds log events) where
       }
 
   -- another record of the thread with the same next LSN, where the entries that it counts as durable besides are persisted
-  retail-holds : (tail : Tail) → tail .next .0 ≡ log .tail .next .0 → log .tail .durable .0 ≤ tail .durable .0 → tail .durable .0 ≤ tail .flushed .0 → tail .flushed .0 + 1 ≤ tail .next .0 → ((number : ℕ) → log .tail .durable .0 < number → number ≤ tail .durable .0 → WordsAre (log .persisted) number (events number)) → LogHolds (withTail log tail) events
+  retail-holds : (tail : Tail) → tail .next .0 ≡ log .tail .next .0 → log .tail .durable .0 ≤ tail .durable .0 → tail .durable .0 ≤ tail .flushed .0 → tail .flushed .0 + 1 ≤ tail .next .0 → ((number : ℕ) → log .tail .durable .0 < number → number ≤ tail .durable .0 → WordsAre (wordsOf (log .persisted)) number (events number)) → LogHolds (withTail log tail) events
   retail-holds tail nextIs durableGrows durableFlushed flushedNext more = record {
     cachedSlots = inv .cachedSlots;
-    persistedWords = inv .persistedWords;
+    persistedSlots = inv .persistedSlots;
     headPositive = inv .headPositive;
     headNext = omega arith;
     nextBound = omega arith;
@@ -148,14 +156,14 @@ module _ (log : Log) (events : ℕ → Event) (inv : LogHolds log events) where
       retail-holds (releasedTail (log .tail)) refl (omega arith) (inv .durableFlushed) (inv .flushedNext) (λ number above to. absurd (omega arith))
 
   -- once the slot of a live entry is persisted, an LSN of the window in this slot is that entry's
-  persist-same : (live number : ℕ) → log .head .0 ≤ live → live < log .tail .next .0 → log .head .0 ≤ number → number < log .head .0 + slotCount → slotOf number ≡ slotOf live → (number < log .tail .next .0) × WordsAre (persistSlot (log .cached) (log .persisted) (slotOf live)) number (events number)
+  persist-same : (live number : ℕ) → log .head .0 ≤ live → live < log .tail .next .0 → log .head .0 ≤ number → number < log .head .0 + slotCount → slotOf number ≡ slotOf live → (number < log .tail .next .0) × WordsAre (wordsOf (persistSlot (log .cached) (log .persisted) (slotOf live))) number (events number)
   persist-same live number liveFrom liveTo from to same =
       let is : live ≡ number = sym (same-slot (log .head .0) number live from to liveFrom (omega arith) same) in (
         omega arith,
         subst
-            (λ entry. WordsAre (persistSlot (log .cached) (log .persisted) (slotOf live)) entry (events entry))
+            (λ entry. WordsAre (wordsOf (persistSlot (log .cached) (log .persisted) (slotOf live))) entry (events entry))
             is
-            (persist-here (log .cached) (log .persisted) live (events live) (inv .persistedWords) (inv .cachedIs live liveFrom liveTo)),
+            (persist-here (log .cached) (log .persisted) live (events live) (inv .persistedSlots) (inv .cachedIs live liveFrom liveTo)),
       )
 
   -- the slot of a live entry is persisted
@@ -164,7 +172,7 @@ module _ (log : Log) (events : ℕ → Event) (inv : LogHolds log events) where
       let slot = slotOf live in
       record {
         cachedSlots = inv .cachedSlots;
-        persistedWords = length-persistSlot (log .cached) (log .persisted) slot ∙ inv .persistedWords;
+        persistedSlots = length-persistSlot (log .cached) (log .persisted) slot ∙ inv .persistedSlots;
         headPositive = inv .headPositive;
         headNext = inv .headNext;
         nextBound = inv .nextBound;
@@ -198,7 +206,7 @@ module _ (log : Log) (events : ℕ → Event) (inv : LogHolds log events) where
   unfolding pruneOf
   prune-holds count headNext headDurable = record {
     cachedSlots = inv .cachedSlots;
-    persistedWords = inv .persistedWords;
+    persistedSlots = inv .persistedSlots;
     headPositive = omega arith;
     headNext = headNext;
     nextBound = inv .nextBound;
@@ -213,9 +221,9 @@ module _ (log : Log) (events : ℕ → Event) (inv : LogHolds log events) where
         (λ inWindow. inv .foundIs number (omega arith) inWindow held)
         (λ entered.
         let before = number - slotCount in
-        let word = held-word (log .persisted) number held in
+        let word = held-word (wordsOf (log .persisted)) number held in
         let pruned = inv .durableIs before (omega arith) (omega arith) .lsnIs in
-        let same : wordAt (log .persisted) number 3 ≡ wordAt (log .persisted) before 3 = ap (λ slot. getD (log .persisted) (slot * entryWords + 3) 0) (omega arith) in
+        let same : wordAt (wordsOf (log .persisted)) number 3 ≡ wordAt (wordsOf (log .persisted)) before 3 = ap (λ slot. getD (wordsOf (log .persisted)) (slot * entryWords + 3) 0) (omega arith) in
         absurd (omega arith));
     durableIs = λ number from to. inv .durableIs number (omega arith) to;
   }
@@ -234,7 +242,7 @@ module _ (log : Log) (events : ℕ → Event) (inv : LogHolds log events) where
       (omega arith)
       (omega arith)
 
-  run-words : (number count : ℕ) → log .head .0 ≤ number → number + count ≤ log .tail .next .0 → (live : ℕ) → number ≤ live → live < number + count → WordsAre (persistFrom (log .cached) (log .persisted) number count) live (events live)
+  run-words : (number count : ℕ) → log .head .0 ≤ number → number + count ≤ log .tail .next .0 → (live : ℕ) → number ≤ live → live < number + count → WordsAre (wordsOf (persistFrom (log .cached) (log .persisted) number count)) live (events live)
   unfolding persistFrom
   run-words number zero from to live liveFrom liveTo = absurd (omega arith)
   run-words number (suc count) from to live liveFrom liveTo =

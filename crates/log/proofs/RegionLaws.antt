@@ -7,10 +7,12 @@ use native.Mathlib.Decide.{ℕ-discrete}
 use native.Mathlib.Omega.{arith}
 use borrow.Author.Tests.{eqb-true, eqb-false, le-leb}
 use lib.Dec.{eqb}
-use Rattle.log.specs.Entries.{liveCount, liveEvent, pruneOf, pruneToOf}
+use Rattle.ring.specs.Ring.{lsn}
+use Rattle.log.specs.Entries.{eventOf, liveCount, liveEvent, pruneOf, pruneToOf}
 use Rattle.log.specs.Regions.{isAcquire, isRelease, goesOn, oldestRegion, isFinished}
 use Rattle.log.specs.declared.Event.{Event}
 use Rattle.log.specs.declared.Log.{Log}
+use Rattle.log.proofs.SlotLaws.{says}
 use Rattle.log.proofs.LogInvariant.{LogHolds}
 use Rattle.log.proofs.Walks.{seen, no-region, region-of-release, region-goes-on}
 
@@ -126,7 +128,7 @@ module _ (log : Log) (events : ℕ → Event) (inv : LogHolds log events) where
   -- what a live entry says
   pub live-event : (index number : ℕ) → log .head .0 + index ≡ number → number < log .tail .next .0 → liveEvent log index ≡ events number
   live-event index number is below =
-      ap (λ entry. entry .event) (inv .cachedIs (log .head .0 + index) (omega arith) (omega arith)) ∙ ap events is
+      ap eventOf (inv .cachedIs (log .head .0 + index) (omega arith) (omega arith)) ∙ says (lsn (log .head .0 + index)) (events (log .head .0 + index)) ∙ ap events is
 
   pub oldest-region : RegionIs log events (oldestRegion log)
   unfolding oldestRegion

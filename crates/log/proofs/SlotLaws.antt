@@ -1,22 +1,26 @@
 -- The slots of LSNs, and the words that stand in a persisted slot after a slot was persisted. No invariant of a log is needed here.
 use Prim.Native.Nat.{ℕ, zero, suc, _+_, _*_, _<_, _≤_}
 use mathlib.Core.Bool.{true}
-use mathlib.Core.Path.{_≡_, refl, ap, _∙_}
+use mathlib.Core.Path.{_≡_, refl, ap, sym, _∙_}
 use mathlib.Core.Logic.{_≢_}
-use mathlib.Core.List.{List, [], _∷_}
-use native.Mathlib.Nat.{add-zero}
+use mathlib.Core.List.{List, [], _∷_, _++_, flatten}
+use native.Mathlib.Nat.{zero-add}
 use native.Mathlib.Omega.{arith}
 use borrow.Author.Tests.{eq-eqb, eqb-true}
 use lib.Dec.{eqb}
-use lib.ListN.{length, getD, set, length-set}
-use lib.Seq.{sets, length-sets, getD-set-same, getD-set-other}
+use lib.ListN.{length, getD, length-set, length-append, getD-replicate, List·getD-append}
+use lib.Seq.{getD-set-same, getD-set-other, getD-append-add}
 use Rattle.answer.proofs.BelowLaws.{someBelow-found}
 use Rattle.ring.specs.Ring.{slotCount, lsn, slotOf}
-use Rattle.stretch.specs.Stretch.{entryWords, stretchWords, wordAt, kindAt, placeAt, valueAt, holds}
-use Rattle.log.specs.Entries.{kindOf, placeOf, valueOf, wordsOf, untouched, liveCount, isLiveSlot, persistSlot, persistFrom}
+use Rattle.stretch.specs.Stretch.{entryWords, wordAt, kindAt, placeAt, valueAt, holds}
+use Rattle.log.specs.Entries.{kindOf, placeOf, valueOf, entryOf, eventOf, lsnOf, untouched, zeros, persistedOf, slotWords, wordsOf, liveCount, isLiveSlot, persistSlot, persistFrom}
+use Rattle.log.specs.declared.CachedSlot.{CachedSlot}
 use Rattle.log.specs.declared.Entry.{Entry}
 use Rattle.log.specs.declared.Event.{Event}
+use Rattle.log.specs.declared.Event.the-variants.{Empty, Store, Acquire, Release}
 use Rattle.log.specs.declared.Log.{Log}
+use Rattle.log.specs.declared.PersistedSlot.{PersistedSlot}
+use Rattle.ring.specs.declared.Lsn.{Lsn}
 
 -- what two constructors that are equal lead to
 pub never : _≡_ {A = ℕ} 0 1 → ⊥
@@ -36,27 +40,34 @@ live-slot log slot isLive =
     let found = someBelow-found (liveCount log) (λ index. eqb (slotOf (log .head .0 + index)) slot) isLive in
     (log .head .0 + found .number, omega arith, omega arith, eqb-true _ _ (found .holds))
 
--- a run of stores leaves what stands elsewhere
-pub sets-other : {A : Type 0} (list : List A) (start : ℕ) (values : List A) (place : ℕ) (none : A) → ((index : ℕ) → index < length values → place ≢ start + index) → getD (sets list start values) place none ≡ getD list place none
-sets-other list start [] place none differs = refl
-sets-other list start (value ∷ values) place none differs =
-    sets-other (set list start value) (suc start) values place none (λ index inside. let h = differs (suc index) (omega arith) in omega arith)
-    ∙ getD-set-other list start place value none (let h = differs 0 (omega arith) in omega arith)
+-- an entry that was made of an LSN and an event has both
+pub says : (number : Lsn) (event : Event) → eventOf (entryOf number event) ≡ event
+says number Empty = refl
+says number (Store cell old) = refl
+says number (Acquire lock count) = refl
+says number (Release lock count) = refl
 
--- a run of stores leaves its values
-pub sets-here : {A : Type 0} (list : List A) (start : ℕ) (values : List A) (index : ℕ) (none : A) → start + length values ≤ length list → index < length values → getD (sets list start values) (start + index) none ≡ getD values index none
-sets-here list start [] index none fits inside = absurd (omega arith)
-sets-here list start (value ∷ values) zero none fits inside =
-    rw add-zero
-    (sets-other (set list start value) (suc start) values start none (λ index within. omega arith)
-    ∙ getD-set-same list start value none (omega arith))
-sets-here list start (value ∷ values) (suc index) none fits inside =
-    ap (λ place. getD (sets (set list start value) (suc start) values) place none) (omega arith)
-    ∙ sets-here (set list start value) (suc start) values index none (simp length-set (omega arith)) (omega arith)
+pub numbered : (number : Lsn) (event : Event) → lsnOf (entryOf number event) ≡ number
+numbered number Empty = refl
+numbered number (Store cell old) = refl
+numbered number (Acquire lock count) = refl
+numbered number (Release lock count) = refl
 
--- the entry of an LSN that says this
-abbrev pub entryOf : ℕ → Event → Entry
-entryOf number event = record { lsn = lsn number; event = event }
+-- the words of persisted slots, slot by slot
+pub length-words : (slots : List PersistedSlot) → length (wordsOf slots) ≡ length slots * entryWords
+unfolding wordsOf flatten
+length-words [] = refl
+length-words (slot ∷ slots) = length-append (slotWords slot) (wordsOf slots) ∙ omega (arith, length-words slots)
+
+pub slot-word : (slots : List PersistedSlot) (slot index : ℕ) → index < entryWords → getD (wordsOf slots) (slot * entryWords + index) 0 ≡ getD (slotWords (getD slots slot zeros)) index 0
+unfolding wordsOf flatten
+slot-word [] slot index inside = sym (getD-replicate entryWords index 0 0 inside)
+slot-word (one ∷ slots) zero index inside = rw zero-add (List·getD-append (slotWords one) (wordsOf slots) 0 index inside)
+slot-word (one ∷ slots) (suc slot) index inside =
+    let place : suc slot * entryWords + index ≡ entryWords + (slot * entryWords + index) = omega arith in
+    ap (λ place. getD (slotWords one ++ wordsOf slots) place 0) place
+    ∙ getD-append-add (slotWords one) (wordsOf slots) (slot * entryWords + index) 0
+    ∙ slot-word slots slot index inside
 
 -- the words of an LSN's slot are those of the entry of that LSN that says this
 pub record WordsAre (words : List ℕ) (number : ℕ) (event : Event) : Type 0 where
@@ -70,46 +81,54 @@ pub words-hold : (words : List ℕ) (number : ℕ) (event : Event) → WordsAre 
 unfolding holds
 words-hold words number event are = eq-eqb _ _ (are .lsnIs)
 
-pub length-persistSlot : (cached : List Entry) (words : List ℕ) (slot : ℕ) → length (persistSlot cached words slot) ≡ length words
+pub length-persistSlot : (cached : List CachedSlot) (slots : List PersistedSlot) (slot : ℕ) → length (persistSlot cached slots slot) ≡ length slots
 unfolding persistSlot
-length-persistSlot cached words slot = length-sets words (slot * entryWords) (wordsOf (getD cached slot untouched))
+length-persistSlot cached slots slot = length-set slots slot (persistedOf (getD cached slot untouched .entry))
 
-pub length-persistFrom : (cached : List Entry) (words : List ℕ) (number count : ℕ) → length (persistFrom cached words number count) ≡ length words
+pub length-persistFrom : (cached : List CachedSlot) (slots : List PersistedSlot) (number count : ℕ) → length (persistFrom cached slots number count) ≡ length slots
 unfolding persistFrom
-length-persistFrom cached words number zero = refl
-length-persistFrom cached words number (suc count) =
-    length-persistSlot cached (persistFrom cached words number count) (slotOf (number + count))
-    ∙ length-persistFrom cached words number count
+length-persistFrom cached slots number zero = refl
+length-persistFrom cached slots number (suc count) =
+    length-persistSlot cached (persistFrom cached slots number count) (slotOf (number + count))
+    ∙ length-persistFrom cached slots number count
 
 -- a slot that is persisted has the words of its cached entry
-pub persist-word : (cached : List Entry) (words : List ℕ) (number index : ℕ) → length words ≡ stretchWords → index < entryWords → wordAt (persistSlot cached words (slotOf number)) number index ≡ getD (wordsOf (getD cached (slotOf number) untouched)) index 0
+pub persist-word : (cached : List CachedSlot) (slots : List PersistedSlot) (number index : ℕ) (entry : Entry) → length slots ≡ slotCount → getD cached (slotOf number) untouched .entry ≡ entry → index < entryWords → wordAt (wordsOf (persistSlot cached slots (slotOf number))) number index ≡ getD (slotWords (persistedOf entry)) index 0
 unfolding persistSlot
-persist-word cached words number index sized inside =
-    sets-here words (slotOf number * entryWords) (wordsOf (getD cached (slotOf number) untouched)) index 0 (omega arith) inside
+persist-word cached slots number index entry sized is inside =
+    slot-word (persistSlot cached slots (slotOf number)) (slotOf number) index inside
+    ∙ ap (λ slot. getD (slotWords slot) index 0) (getD-set-same slots (slotOf number) (persistedOf (getD cached (slotOf number) untouched .entry)) zeros (omega (arith, slot-below number)))
+    ∙ ap (λ made. getD (slotWords (persistedOf made)) index 0) is
 
 -- the words of the other slots are as they were
-pub persist-word-other : (cached : List Entry) (words : List ℕ) (slot number index : ℕ) → slotOf number ≢ slot → index < entryWords → wordAt (persistSlot cached words slot) number index ≡ wordAt words number index
+pub persist-word-other : (cached : List CachedSlot) (slots : List PersistedSlot) (slot number index : ℕ) → slotOf number ≢ slot → index < entryWords → wordAt (wordsOf (persistSlot cached slots slot)) number index ≡ wordAt (wordsOf slots) number index
 unfolding persistSlot
-persist-word-other cached words slot number index differs inside =
-    sets-other words (slot * entryWords) (wordsOf (getD cached slot untouched)) (slotOf number * entryWords + index) 0 (λ place within. omega arith)
+persist-word-other cached slots slot number index differs inside =
+    slot-word (persistSlot cached slots slot) (slotOf number) index inside
+    ∙ ap (λ kept. getD (slotWords kept) index 0) (getD-set-other slots slot (slotOf number) (persistedOf (getD cached slot untouched .entry)) zeros differs)
+    ∙ sym (slot-word slots (slotOf number) index inside)
 
-pub persist-here : (cached : List Entry) (words : List ℕ) (number : ℕ) (event : Event) → length words ≡ stretchWords → getD cached (slotOf number) untouched ≡ entryOf number event → WordsAre (persistSlot cached words (slotOf number)) number event
-persist-here cached words number event sized is = record {
-  kindIs = persist-word cached words number 0 sized (omega arith) ∙ ap (λ entry. kindOf (entry .event)) is;
-  placeIs = persist-word cached words number 1 sized (omega arith) ∙ ap (λ entry. placeOf (entry .event)) is;
-  valueIs = persist-word cached words number 2 sized (omega arith) ∙ ap (λ entry. valueOf (entry .event)) is;
-  lsnIs = persist-word cached words number 3 sized (omega arith) ∙ ap (λ entry. entry .lsn .0) is;
+pub persist-here : (cached : List CachedSlot) (slots : List PersistedSlot) (number : ℕ) (event : Event) → length slots ≡ slotCount → getD cached (slotOf number) untouched .entry ≡ entryOf (lsn number) event → WordsAre (wordsOf (persistSlot cached slots (slotOf number))) number event
+persist-here cached slots number event sized is =
+    let word : (index : ℕ) → index < entryWords → wordAt (wordsOf (persistSlot cached slots (slotOf number))) number index ≡ getD (slotWords (persistedOf (entryOf (lsn number) event))) index 0 =
+    λ index inside. persist-word cached slots number index (entryOf (lsn number) event) sized is inside in
+    let said = says (lsn number) event in
+    record {
+      kindIs = word 0 (omega arith) ∙ ap kindOf said;
+      placeIs = word 1 (omega arith) ∙ ap placeOf said;
+      valueIs = word 2 (omega arith) ∙ ap valueOf said;
+      lsnIs = word 3 (omega arith) ∙ ap (λ (made : Lsn). made .0) (numbered (lsn number) event);
+    }
+
+pub persist-other : (cached : List CachedSlot) (slots : List PersistedSlot) (slot number : ℕ) (event : Event) → slotOf number ≢ slot → WordsAre (wordsOf slots) number event → WordsAre (wordsOf (persistSlot cached slots slot)) number event
+persist-other cached slots slot number event differs are = record {
+  kindIs = persist-word-other cached slots slot number 0 differs (omega arith) ∙ are .kindIs;
+  placeIs = persist-word-other cached slots slot number 1 differs (omega arith) ∙ are .placeIs;
+  valueIs = persist-word-other cached slots slot number 2 differs (omega arith) ∙ are .valueIs;
+  lsnIs = persist-word-other cached slots slot number 3 differs (omega arith) ∙ are .lsnIs;
 }
 
-pub persist-other : (cached : List Entry) (words : List ℕ) (slot number : ℕ) (event : Event) → slotOf number ≢ slot → WordsAre words number event → WordsAre (persistSlot cached words slot) number event
-persist-other cached words slot number event differs are = record {
-  kindIs = persist-word-other cached words slot number 0 differs (omega arith) ∙ are .kindIs;
-  placeIs = persist-word-other cached words slot number 1 differs (omega arith) ∙ are .placeIs;
-  valueIs = persist-word-other cached words slot number 2 differs (omega arith) ∙ are .valueIs;
-  lsnIs = persist-word-other cached words slot number 3 differs (omega arith) ∙ are .lsnIs;
-}
-
-pub persist-holds-other : (cached : List Entry) (words : List ℕ) (slot number : ℕ) → slotOf number ≢ slot → holds (persistSlot cached words slot) number ≡ holds words number
+pub persist-holds-other : (cached : List CachedSlot) (slots : List PersistedSlot) (slot number : ℕ) → slotOf number ≢ slot → holds (wordsOf (persistSlot cached slots slot)) number ≡ holds (wordsOf slots) number
 unfolding holds
-persist-holds-other cached words slot number differs =
-    ap (λ word. eqb word number) (persist-word-other cached words slot number 3 differs (omega arith))
+persist-holds-other cached slots slot number differs =
+    ap (λ word. eqb word number) (persist-word-other cached slots slot number 3 differs (omega arith))

@@ -10,12 +10,12 @@ use borrow.Author.Tests.{eq-eqb, ne-eqb}
 use Rattle.log.specs.Entries.{liveCount, liveEvent}
 use Rattle.log.specs.Regions.{isAcquire, isRelease, searched, loggedAmong, goesOn, oldestRegion}
 use Rattle.ring.specs.declared.Lsn.{Lsn}
-use Rattle.log.specs.declared.Entry.{Entry}
+use Rattle.log.specs.declared.CachedSlot.{CachedSlot}
 use Rattle.log.specs.declared.Found.the-variants.{At}
 use Rattle.log.specs.declared.Log.{Log}
 
 -- a log with these cached entries and this head
-abbrev pub seen : List Entry → Lsn → Log
+abbrev pub seen : List CachedSlot → Lsn → Log
 seen cached head = record { cached = cached; persisted = []; head = head; tail = freshTail }
 
 pub logged-seen : (log : Log) (cell count : ℕ) → loggedAmong log cell count ≡ loggedAmong (seen (log .cached) (log .head)) cell count

@@ -1,24 +1,27 @@
 -- What an entry records, the words that it is persisted as, what appends, flushes, fences, evictions and prunings do to a log, and the
 -- writer of its stretch.
-use Prim.Native.Nat.{ℕ, zero, suc, _+_, _-_, _*_}
+use Prim.Native.Nat.{ℕ, zero, suc, _+_, _-_}
 use mathlib.Core.Bool.{Bool, cond, not, _&&_}
-use mathlib.Core.List.{List, [], _∷_, _++_}
+use mathlib.Core.List.{List, [], _∷_, _++_, map, flatten}
 use lib.ListN.{length, getD, set, replicate, drop}
-use lib.Seq.{sets}
 use lib.Dec.{eqb, leb, ltb}
 use Rattle.answer.specs.Lists.{someBelow}
 use Rattle.answer.specs.Refusals.{Test, _⇒_, unless}
 use Rattle.answer.specs.declared.Answer.the-variants.{Accepted, NoLiveEntry}
 use Rattle.ring.specs.Ring.{slotCount, lsn, slotOf, freshTail, grownTail, roomTests, flushedTail, fencedTail, releasedTail}
-use Rattle.stretch.specs.Stretch.{entryWords, stretchWords}
+use Rattle.stretch.specs.Stretch.{stretchWords}
+use Rattle.ring.specs.declared.Lsn.{Lsn}
 use Rattle.ring.specs.declared.Releasing.{Releasing}
 use Rattle.ring.specs.declared.Releasing.the-variants.{Nothing, Lock}
 use Rattle.ring.specs.declared.Tail.{Tail}
+use Rattle.log.specs.declared.CachedSlot.{CachedSlot}
 use Rattle.log.specs.declared.Changed.{Changed}
 use Rattle.log.specs.declared.Event.{Event}
 use Rattle.log.specs.declared.Event.the-variants.{Empty, Store, Acquire, Release}
 use Rattle.log.specs.declared.Entry.{Entry}
+use Rattle.log.specs.declared.Entry.the-variants.{Untouched, Stored, Acquired, Released}
 use Rattle.log.specs.declared.Log.{Log}
+use Rattle.log.specs.declared.PersistedSlot.{PersistedSlot}
 use Rattle.log.specs.declared.SyncCount.{SyncCount}
 
 -- the lock count of a number
@@ -46,19 +49,57 @@ valueOf (Store cell old) = old
 valueOf (Acquire lock count) = count .0
 valueOf (Release lock count) = count .0
 
--- "the words kind, place, value, rank"
-abbrev pub wordsOf : Entry → List ℕ
-wordsOf entry = kindOf (entry .event) ∷ placeOf (entry .event) ∷ valueOf (entry .event) ∷ entry .lsn .0 ∷ []
+-- the entry of this LSN that says this
+abbrev pub entryOf : Lsn → Event → Entry
+entryOf lsn Empty = Untouched lsn
+entryOf lsn (Store cell old) = Stored cell lsn old
+entryOf lsn (Acquire lock count) = Acquired lock lsn count
+entryOf lsn (Release lock count) = Released lock lsn count
 
--- an untouched slot
-abbrev pub untouched : Entry
-untouched = record { lsn = lsn 0; event = Empty }
+-- what an entry says
+abbrev pub eventOf : Entry → Event
+eventOf (Untouched lsn) = Empty
+eventOf (Stored cell lsn old) = Store cell old
+eventOf (Acquired lock lsn count) = Acquire lock count
+eventOf (Released lock lsn count) = Release lock count
+
+-- the LSN of an entry
+abbrev pub lsnOf : Entry → Lsn
+lsnOf (Untouched lsn) = lsn
+lsnOf (Stored cell lsn old) = lsn
+lsnOf (Acquired lock lsn count) = lsn
+lsnOf (Released lock lsn count) = lsn
+
+-- an untouched slot, cached
+abbrev pub untouched : CachedSlot
+untouched = record { entry = Untouched (lsn 0) }
+
+-- an untouched slot, persisted: "four zeros"
+abbrev pub zeros : PersistedSlot
+zeros = record { kind = 0; place = 0; lsn = lsn 0; value = 0 }
+
+-- an entry as it is persisted
+abbrev pub persistedOf : Entry → PersistedSlot
+persistedOf entry = record {
+  kind = kindOf (eventOf entry);
+  place = placeOf (eventOf entry);
+  lsn = lsnOf entry;
+  value = valueOf (eventOf entry);
+}
+
+-- "the words kind, place, value, rank"
+abbrev pub slotWords : PersistedSlot → List ℕ
+slotWords slot = slot .kind ∷ slot .place ∷ slot .value ∷ slot .lsn .0 ∷ []
+
+-- the words of persisted slots, one slot after the other
+unfoldable pub wordsOf : List PersistedSlot → List ℕ
+wordsOf slots = flatten (map slotWords slots)
 
 -- "An untouched slot holds four zeros; heads start at 1."
 unfoldable pub freshLog : Log
 freshLog = record {
   cached = replicate slotCount untouched;
-  persisted = replicate (slotCount * entryWords) 0;
+  persisted = replicate slotCount zeros;
   head = lsn 1;
   tail = freshTail;
 }
@@ -69,11 +110,11 @@ liveCount log = log .tail .next .0 - log .head .0
 
 -- the cached entry in the slot of an LSN
 abbrev pub entryAt : Log → ℕ → Entry
-entryAt log number = getD (log .cached) (slotOf number) untouched
+entryAt log number = getD (log .cached) (slotOf number) untouched .entry
 
 -- what the live entry says that has so many live ones before it
 abbrev pub liveEvent : Log → ℕ → Event
-liveEvent log index = entryAt log (log .head .0 + index) .event
+liveEvent log index = eventOf (entryAt log (log .head .0 + index))
 
 -- some live entry sits in the slot
 unfoldable pub isLiveSlot : Log → ℕ → Bool
@@ -93,7 +134,7 @@ closesOf (Release lock count) = Lock lock
 -- the log with one entry more, of the next LSN
 unfoldable pub appendOf : Log → Event → Log
 appendOf log event = record {
-  cached = set (log .cached) (slotOf (log .tail .next .0)) (record { lsn = log .tail .next; event = event });
+  cached = set (log .cached) (slotOf (log .tail .next .0)) (record { entry = entryOf (log .tail .next) event });
   persisted = log .persisted;
   head = log .head;
   tail = grownTail (log .tail) (closesOf event);
@@ -119,12 +160,12 @@ flushLogOf log = withTail log (flushedTail (log .tail))
 unfoldable pub endReleaseOf : Log → Log
 endReleaseOf log = withTail log (releasedTail (log .tail))
 
--- the persisted words after the cached entry in a slot became kept
-unfoldable pub persistSlot : List Entry → List ℕ → ℕ → List ℕ
-persistSlot cached persisted slot = sets persisted (slot * entryWords) (wordsOf (getD cached slot untouched))
+-- the persisted slots after the cached entry in a slot became kept
+unfoldable pub persistSlot : List CachedSlot → List PersistedSlot → ℕ → List PersistedSlot
+persistSlot cached persisted slot = set persisted slot (persistedOf (getD cached slot untouched .entry))
 
--- the persisted words after the cached entries of so many LSNs from this one became kept
-unfoldable pub persistFrom : List Entry → List ℕ → ℕ → ℕ → List ℕ
+-- the persisted slots after the cached entries of so many LSNs from this one became kept
+unfoldable pub persistFrom : List CachedSlot → List PersistedSlot → ℕ → ℕ → List PersistedSlot
 persistFrom cached persisted number zero = persisted
 persistFrom cached persisted number (suc count) =
     persistSlot cached (persistFrom cached persisted number count) (slotOf (number + count))
@@ -188,4 +229,4 @@ pruneToOf log number =
 -- the writer of a log's stretch over a lent part: its first 256 words are the persisted ones, and a part that is too short is as it was
 unfoldable pub writtenOf : Log → List ℕ → List ℕ
 writtenOf log part =
-    cond (ltb (length part) stretchWords) part (log .persisted ++ drop stretchWords part)
+    cond (ltb (length part) stretchWords) part (wordsOf (log .persisted) ++ drop stretchWords part)

@@ -1,11 +1,11 @@
 // One thread's undo log: its entries, which of them are live, durable or persisted, its regions, and the writer of its stretch of an image.
 ghost use mathlib.Core.Path.{_≡_};
-ghost use Prim.Native.Nat.{_+_, _-_, _*_, _<_};
-ghost use lib.Seq.{sets};
+ghost use Prim.Native.Nat.{_+_, _-_, _<_};
+ghost use lib.ListN.{getD};
 ghost use lib.Dec.{eqb};
 ghost use Rattle.answer.specs.Lists.{someBelow};
 ghost use Rattle.ring.specs.Ring.{slotOf};
-ghost use Rattle.log.specs.Entries.{kindOf, placeOf, valueOf, wordsOf, freshLog, liveCount, liveEvent, closesOf, appendedOf, flushLogOf, endReleaseOf, fenceLogOf, evictedOf, pruneToOf, writtenOf};
+ghost use Rattle.log.specs.Entries.{kindOf, placeOf, valueOf, entryOf, eventOf, lsnOf, persistedOf, slotWords, freshLog, liveCount, liveEvent, closesOf, appendedOf, flushLogOf, endReleaseOf, fenceLogOf, evictedOf, pruneToOf, writtenOf};
 ghost use Rattle.log.specs.Regions.{isAcquire, isRelease, loggedOf, oldestRegion, isFinished};
 use answer::Answer;
 use ring::Lsn;
@@ -24,16 +24,45 @@ pub enum Event {
     Release { lock: u8, count: SyncCount },
 }
 
-// An entry sits in slot LSN mod 64. An untouched slot holds LSN 0 and `Empty`.
-pub struct Entry {
-    lsn: Lsn,
-    event: Event,
+// An entry: what it records, with its LSN. The LSN stands inside each case, so that an entry takes 16 bytes.
+pub enum Entry {
+    Untouched {
+        lsn: Lsn,
+    },
+    Stored {
+        cell: u8,
+        lsn: Lsn,
+        old: u64,
+    },
+    Acquired {
+        lock: u8,
+        lsn: Lsn,
+        count: SyncCount,
+    },
+    Released {
+        lock: u8,
+        lsn: Lsn,
+        count: SyncCount,
+    },
 }
 
-// A thread's log: 64 cached slots (document 01: seen), the words of its 64 persisted ones (kept), the head and the thread's record.
+// A slot as the cache has it. An entry sits in slot LSN mod 64; an untouched slot holds LSN 0.
+pub struct CachedSlot {
+    entry: Entry,
+}
+
+// A slot as persistent memory has it: the words kind, place, value and LSN of an image, each as wide as an entry needs it.
+pub struct PersistedSlot {
+    kind: u8,
+    place: u8,
+    lsn: Lsn,
+    value: u64,
+}
+
+// A thread's log: 64 slots, cached (document 01: seen) and persisted (kept), the head and the thread's record.
 pub struct Log {
-    cached: [Entry; 64],
-    persisted: [u64; 256],
+    cached: [CachedSlot; 64],
+    persisted: [PersistedSlot; 64],
     head: Lsn,
     tail: Tail,
 }
@@ -76,22 +105,9 @@ fn has_slot(first: Lsn, count: u32, slot: usize) -> bool
     ahead < count as usize
 }
 
-// Writes the words of an entry at those of its slot.
-fn persist(persisted: &mut [u64; 256], slot: usize, entry: Entry)
-    requires { ⌜ slot < 64 ⌝ }
-    ensures { λ _. ⌜ now (persisted .exit) ≡ sets (now (persisted .entry)) (slot * 4) (wordsOf entry) ⌝ }
-{
-    let event = entry.event;
-    let at = slot * 4;
-    persisted[at] = event.kind();
-    persisted[at + 1] = event.place();
-    persisted[at + 2] = event.value();
-    persisted[at + 3] = entry.lsn.0 as u64;
-}
-
 impl Event {
     // The first word of an entry.
-    fn kind(self) -> u64
+    fn kind(self) -> u8
         ensures { λ r. ⌜ r ≡ kindOf self ⌝ }
     {
         match self {
@@ -103,14 +119,14 @@ impl Event {
     }
 
     // The second word of an entry: its cell or lock.
-    fn place(self) -> u64
+    fn place(self) -> u8
         ensures { λ r. ⌜ r ≡ placeOf self ⌝ }
     {
         match self {
             Event::Empty => 0,
-            Event::Store { cell, old: _ } => cell as u64,
-            Event::Acquire { lock, count: _ } => lock as u64,
-            Event::Release { lock, count: _ } => lock as u64,
+            Event::Store { cell, old: _ } => cell,
+            Event::Acquire { lock, count: _ } => lock,
+            Event::Release { lock, count: _ } => lock,
         }
     }
 
@@ -163,17 +179,113 @@ impl Event {
     }
 }
 
+impl Entry {
+    // The entry of this LSN that says this.
+    fn new(lsn: Lsn, event: Event) -> Entry
+        ensures { λ r. ⌜ r ≡ entryOf lsn event ⌝ }
+    {
+        match event {
+            Event::Empty => Entry::Untouched { lsn },
+            Event::Store { cell, old } => Entry::Stored { cell, lsn, old },
+            Event::Acquire { lock, count } => Entry::Acquired { lock, lsn, count },
+            Event::Release { lock, count } => Entry::Released { lock, lsn, count },
+        }
+    }
+
+    // What the entry says.
+    fn event(self) -> Event
+        ensures { λ r. ⌜ r ≡ eventOf self ⌝ }
+    {
+        match self {
+            Entry::Untouched { lsn: _ } => Event::Empty,
+            Entry::Stored { cell, lsn: _, old } => Event::Store { cell, old },
+            Entry::Acquired {
+                lock,
+                lsn: _,
+                count,
+            } => Event::Acquire { lock, count },
+            Entry::Released {
+                lock,
+                lsn: _,
+                count,
+            } => Event::Release { lock, count },
+        }
+    }
+
+    // The entry's LSN.
+    fn lsn(self) -> Lsn
+        ensures { λ r. ⌜ r ≡ lsnOf self ⌝ }
+    {
+        match self {
+            Entry::Untouched { lsn } => lsn,
+            Entry::Stored {
+                cell: _,
+                lsn,
+                old: _,
+            } => lsn,
+            Entry::Acquired {
+                lock: _,
+                lsn,
+                count: _,
+            } => lsn,
+            Entry::Released {
+                lock: _,
+                lsn,
+                count: _,
+            } => lsn,
+        }
+    }
+
+    // The entry as it is persisted.
+    fn persisted(self) -> PersistedSlot
+        ensures { λ r. ⌜ r ≡ persistedOf self ⌝ }
+    {
+        let event = self.event();
+        let lsn = self.lsn();
+        PersistedSlot {
+            kind: event.kind(),
+            place: event.place(),
+            lsn,
+            value: event.value(),
+        }
+    }
+}
+
+impl PersistedSlot {
+    // One of the slot's four words, in an image's order.
+    fn word(self, index: usize) -> u64
+        requires { ⌜ index < 4 ⌝ }
+        ensures { λ r. ⌜ r ≡ getD (slotWords self) index 0 ⌝ }
+    {
+        if index == 0 {
+            return self.kind as u64;
+        }
+        if index == 1 {
+            return self.place as u64;
+        }
+        if index == 2 {
+            return self.value;
+        }
+        self.lsn.0 as u64
+    }
+}
+
 impl Log {
     // The log of a thread that has made no entry.
     pub fn new() -> Log
         ensures { λ r. ⌜ r ≡ freshLog ⌝ }
     {
-        let untouched = Entry {
+        let untouched = CachedSlot {
+            entry: Entry::Untouched { lsn: Lsn(0) },
+        };
+        let zeros = PersistedSlot {
+            kind: 0,
+            place: 0,
             lsn: Lsn(0),
-            event: Event::Empty,
+            value: 0,
         };
         let cached = [untouched; 64];
-        let persisted = [0u64; 256];
+        let persisted = [zeros; 64];
         let tail = Tail::fresh();
         Log {
             cached,
@@ -231,8 +343,9 @@ impl Log {
     {
         let cached = self.cached;
         let slot = slot_after(self.head, index);
-        let entry = cached[slot];
-        entry.event
+        let held = cached[slot];
+        let entry = held.entry;
+        entry.event()
     }
 
     // The log with one entry more, beside its LSN; or a refusal (6, then 5), and the log as it was.
@@ -248,7 +361,8 @@ impl Log {
             return Changed { answer, log: self };
         }
         let slot = next.0 as usize % 64;
-        self.cached[slot] = Entry { lsn: next, event };
+        let entry = Entry::new(next, event);
+        self.cached[slot] = CachedSlot { entry };
         self.tail = tail;
         Changed { answer, log: self }
     }
@@ -260,17 +374,15 @@ impl Log {
         let before = self.tail;
         let durable = before.durable_lsn();
         let flushed = before.flushed_lsn();
-        let cached = self.cached;
-        let mut persisted = self.persisted;
         let count = flushed.since(durable) as usize;
         let mut done = 0;
         while done < count {
             let slot = slot_after(durable, done + 1);
-            let entry = cached[slot];
-            persist(&mut persisted, slot, entry);
+            let held = self.cached[slot];
+            let entry = held.entry;
+            self.persisted[slot] = entry.persisted();
             done += 1;
         }
-        self.persisted = persisted;
         let fenced = before.fenced();
         self.tail = fenced;
         self
@@ -283,11 +395,9 @@ impl Log {
         let head = self.head;
         let tail = self.tail;
         if has_slot(head, live_entries(tail, head), slot) {
-            let cached = self.cached;
-            let mut persisted = self.persisted;
-            let entry = cached[slot];
-            persist(&mut persisted, slot, entry);
-            self.persisted = persisted;
+            let held = self.cached[slot];
+            let entry = held.entry;
+            self.persisted[slot] = entry.persisted();
             Changed {
                 answer: Answer::Accepted(0),
                 log: self,
@@ -328,8 +438,9 @@ impl Log {
         while 0 < left {
             left -= 1;
             let slot = slot_after(head, left as usize);
-            let entry = cached[slot];
-            let event = entry.event;
+            let held = cached[slot];
+            let entry = held.entry;
+            let event = entry.event();
             match event {
                 Event::Empty => return Found::Nowhere,
                 Event::Store {
@@ -359,16 +470,18 @@ impl Log {
             return 0;
         }
         let slot = slot_after(head, 0);
-        let entry = cached[slot];
-        let event = entry.event;
+        let held = cached[slot];
+        let entry = held.entry;
+        let event = entry.event();
         if event.is_release() {
             return 1;
         }
         let mut count = 1;
         while count < live {
             let slot = slot_after(head, count);
-            let entry = cached[slot];
-            let event = entry.event;
+            let held = cached[slot];
+            let entry = held.entry;
+            let event = entry.event();
             if event.is_acquire() {
                 return count;
             }
@@ -409,7 +522,8 @@ pub fn write_stretch(log: Log, part: &mut [u64])
     let persisted = log.persisted;
     let mut i = 0;
     while i < 256 {
-        part[i] = persisted[i];
+        let slot = persisted[i / 4];
+        part[i] = slot.word(i % 4);
         i += 1;
     }
 }

@@ -1,5 +1,5 @@
 -- How a cut comes to its image: the cells first, then thread by thread the head and the log's stretch.
-use Prim.Native.Nat.{ℕ, _+_, _-_, _≤_, _<_}
+use Prim.Native.Nat.{ℕ, _+_, _-_, _*_, _≤_, _<_}
 use native.Mathlib.Decide.{decLt, ℕ-discrete}
 use native.Mathlib.Omega.{arith}
 use mathlib.Core.Path.{_≡_, refl, sym, ap, _∙_}
@@ -11,16 +11,18 @@ use borrow.Author.Tests.{le-ltb, lt-ltb, eq-eqb}
 use Rattle.cache.specs.Cache.{cellCount, persistedInto}
 use Rattle.cache.specs.declared.Cache.{Cache}
 use Rattle.cache.proofs.CacheLaws.{persistedInto-long}
-use Rattle.stretch.specs.Stretch.{imageWords, headsAt, stretchWords, stretchAt, stretchOf}
-use Rattle.log.specs.Entries.{writtenOf}
+use Rattle.ring.specs.Ring.{slotCount}
+use Rattle.stretch.specs.Stretch.{imageWords, headsAt, entryWords, stretchWords, stretchAt, stretchOf}
+use Rattle.log.specs.Entries.{wordsOf, writtenOf}
 use Rattle.log.specs.declared.Log.{Log}
 use Rattle.stretch.proofs.ImageLaws.{Reads}
+use Rattle.log.proofs.SlotLaws.{length-words}
 use Rattle.log.proofs.ImageLaws.{logs-read}
 use Rattle.machine.specs.Holds.{threadCount, noLog, logOf}
 use Rattle.machine.specs.Image.{imageOf, logInto}
 use Rattle.machine.specs.Runs.{Reached}
 use Rattle.machine.specs.declared.Machine.{Machine}
-use Rattle.machine.proofs.Stretches.{reached-stretched, all-logs, whole-stretch}
+use Rattle.machine.proofs.Stretches.{reached-stretched, all-logs, all-slots}
 
 -- what stands before and from a place of a list whose rest is another list
 module _ (list rest : List ℕ) (at : ℕ) (fits : at ≤ length list) where
@@ -47,11 +49,11 @@ part-lent list at = take-all (length list - at) (drop at list) (omega (arith, le
 abbrev headed : Log → ℕ → List ℕ → List ℕ
 headed log thread image = set image (headsAt + thread) (log .head .0)
 
-module _ (log : Log) (thread : ℕ) (image : List ℕ) (inThread : thread < threadCount) (long : length image ≡ imageWords) (words : length (log .persisted) ≡ stretchWords) where
+module _ (log : Log) (thread : ℕ) (image : List ℕ) (inThread : thread < threadCount) (long : length image ≡ imageWords) (words : length (wordsOf (log .persisted)) ≡ stretchWords) where
   headed-long : length (headed log thread image) ≡ imageWords
   headed-long = length-set image (headsAt + thread) (log .head .0) ∙ long
 
-  into-is : logInto log thread image ≡ take (stretchAt thread) (headed log thread image) ++ (log .persisted ++ drop stretchWords (drop (stretchAt thread) (headed log thread image)))
+  into-is : logInto log thread image ≡ take (stretchAt thread) (headed log thread image) ++ (wordsOf (log .persisted) ++ drop stretchWords (drop (stretchAt thread) (headed log thread image)))
   unfolding logInto writtenOf
   into-is = rw (le-ltb (length (drop (stretchAt thread) (headed log thread image))) stretchWords (simp length-drop (omega (arith, headed-long))))
 
@@ -67,11 +69,11 @@ module _ (log : Log) (thread : ℕ) (image : List ℕ) (inThread : thread < thre
   into-other : (place : ℕ) → place < stretchAt thread → (place ≡ headsAt + thread → ⊥) → getD (logInto log thread image) place 0 ≡ getD image place 0
   into-other place below other = into-front place below ∙ getD-set-other image (headsAt + thread) place (log .head .0) 0 other
 
-  into-stretch : (index : ℕ) → index < stretchWords → getD (logInto log thread image) (stretchAt thread + index) 0 ≡ getD (log .persisted) index 0
+  into-stretch : (index : ℕ) → index < stretchWords → getD (logInto log thread image) (stretchAt thread + index) 0 ≡ getD (wordsOf (log .persisted)) index 0
   into-stretch index below =
       rw into-is
       (in-part (headed log thread image) _ (stretchAt thread) (omega (arith, headed-long)) index ∙
-      List·getD-append (log .persisted) (drop stretchWords (drop (stretchAt thread) (headed log thread image))) 0 index (omega arith))
+      List·getD-append (wordsOf (log .persisted)) (drop stretchWords (drop (stretchAt thread) (headed log thread image))) 0 index (omega arith))
 
 -- what an image holds once all cells, and the heads and stretches of the threads below this one, are written
 pub record WrittenTo (machine : Machine) (image : List ℕ) (thread : ℕ) : Type 0 where
@@ -82,20 +84,23 @@ pub record WrittenTo (machine : Machine) (image : List ℕ) (thread : ℕ) : Typ
   pub back : (place : ℕ) → stretchAt 0 ≤ place → place < stretchAt thread → getD image place 0 ≡ getD (imageOf machine) place 0
 
 module _ (machine : Machine) (reached : Reached machine) (cells : length (machine .cache .persisted) ≡ cellCount) where
-  words : (thread : ℕ) → thread < threadCount → length (logOf machine thread .persisted) ≡ stretchWords
-  words = whole-stretch machine (reached-stretched machine reached)
+  slots : (thread : ℕ) → thread < threadCount → length (logOf machine thread .persisted) ≡ slotCount
+  slots = all-slots machine (reached-stretched machine reached)
 
-  reads : Reads (imageOf machine) (machine .cache .persisted) (λ thread. logOf machine thread .head .0) (λ thread. logOf machine thread .persisted)
+  words : (thread : ℕ) → thread < threadCount → length (wordsOf (logOf machine thread .persisted)) ≡ stretchWords
+  words thread inThread = length-words (logOf machine thread .persisted) ∙ ap (λ count. count * entryWords) (slots thread inThread)
+
+  reads : Reads (imageOf machine) (machine .cache .persisted) (λ thread. logOf machine thread .head .0) (λ thread. wordsOf (logOf machine thread .persisted))
   unfolding imageOf
-  reads = logs-read (machine .cache .persisted) (machine .logs) noLog cells (all-logs machine (reached-stretched machine reached)) words
+  reads = logs-read (machine .cache .persisted) (machine .logs) noLog cells (all-logs machine (reached-stretched machine reached)) slots
 
   cell-at : (place : ℕ) → place < headsAt → getD (imageOf machine) place 0 ≡ getD (machine .cache .persisted) place 0
   cell-at place below = sym (getD-take headsAt (imageOf machine) place 0 below) ∙ ap (λ (front : List ℕ). getD front place 0) (reads .cellsAre)
 
-  word-at : (thread : ℕ) → thread < threadCount → (index : ℕ) → index < stretchWords → getD (imageOf machine) (stretchAt thread + index) 0 ≡ getD (logOf machine thread .persisted) index 0
+  word-at : (thread : ℕ) → thread < threadCount → (index : ℕ) → index < stretchWords → getD (imageOf machine) (stretchAt thread + index) 0 ≡ getD (wordsOf (logOf machine thread .persisted)) index 0
   unfolding stretchOf
   word-at thread inThread index below =
-      let stretch : take stretchWords (drop (stretchAt thread) (imageOf machine)) ≡ logOf machine thread .persisted = rw (lt-ltb thread 4 inThread, eq-eqb (length (imageOf machine)) imageWords (reads .lengthIs)) at (reads .stretchIs thread inThread) in
+      let stretch : take stretchWords (drop (stretchAt thread) (imageOf machine)) ≡ wordsOf (logOf machine thread .persisted) = rw (lt-ltb thread 4 inThread, eq-eqb (length (imageOf machine)) imageWords (reads .lengthIs)) at (reads .stretchIs thread inThread) in
       sym (getD-drop (stretchAt thread) (imageOf machine) index 0) ∙
       sym (getD-take stretchWords (drop (stretchAt thread) (imageOf machine)) index 0 below) ∙
       ap (λ (part : List ℕ). getD part index 0) stretch

@@ -20,7 +20,6 @@ use Rattle.machine.specs.Refusals.{stateTests}
 use Rattle.machine.specs.Steps.{refused, stepOfKind, stepOfOption, stepOf}
 use Rattle.machine.specs.declared.Machine.{Machine}
 use Rattle.machine.proofs.StepLaws.{input-refuses}
-use Rattle.machine.proofs.Tested.{none-stops}
 
 -- a place over the last one is a place that is not below the bound
 over-last : (last place : ℕ) → ltb last place ≡ not (ltb place (last + 1))
@@ -100,7 +99,7 @@ module _ (thread place value : ℕ) where
 module _ (thread place value : ℕ) where
   -- no test of an accepted input holds
   none-over : (kind : Kind) → numberOf (firstRefusal (inputTests kind thread place value)) ≡ 0 → AllFail (inputTests kind thread place value)
-  none-over kind isAccepted = none-holds (inputTests kind thread place value) (input-refuses kind thread place value) isAccepted
+  none-over kind isAccepted = none-holds (inputTests kind thread place value) (input-refuses kind thread place value) isAccepted .1
 
   thread-below : (found : Option Kind) → numberOf (inputAnswer found thread place value) ≡ 0 → thread < 4
   unfolding inputTests
@@ -109,7 +108,7 @@ module _ (thread place value : ℕ) where
 
   answer-zero : (found : Option Kind) → numberOf (inputAnswer found thread place value) ≡ 0 → inputAnswer found thread place value ≡ Accepted 0
   answer-zero none isAccepted = let never : _≡_ {A = ℕ} 1 0 = isAccepted in absurd (omega arith)
-  answer-zero (some kind) isAccepted = none-stops (λ answer. answer) NoSuchKind (inputTests kind thread place value) (input-refuses kind thread place value) isAccepted .1
+  answer-zero (some kind) isAccepted = none-holds (inputTests kind thread place value) (input-refuses kind thread place value) isAccepted .0
 
   -- an accepted input gives no number
   pub accepted-zero : (number : ℕ) → numberOf (inputAnswer (kindOf number) thread place value) ≡ 0 → inputAnswer (kindOf number) thread place value ≡ Accepted 0
@@ -131,7 +130,7 @@ module _ (machine : Machine) (thread place value : ℕ) where
   unfolding stepOfKind
   refused-option none isRefused = refl
   refused-option (some kind) isRefused =
-      stops (refused machine) (effect machine kind thread place value) (stateTests machine kind thread place) (inputTests kind thread place value) isRefused
+      stops (refused machine) (effect machine kind thread place value) (stateTests machine kind thread place) (inputTests kind thread place value) (input-refuses kind thread place value) isRefused
 
   pub input-refused : (number : ℕ) → (numberOf (inputAnswer (kindOf number) thread place value) ≡ 0 → ⊥) → stepOf machine number thread place value ≡ refused machine (inputAnswer (kindOf number) thread place value)
   unfolding stepOf

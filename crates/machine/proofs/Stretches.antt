@@ -1,4 +1,4 @@
--- Each log of a machine that the start call and steps lead to has a whole stretch of persisted words.
+-- Each log of a machine that the start call and steps lead to has all of its persisted slots.
 use Prim.Native.Nat.{ℕ, _<_}
 use mathlib.Core.Path.{_≡_, refl, sym, ap, _∙_, subst}
 use mathlib.Core.Bool.{Bool, true, false, cond}
@@ -9,7 +9,7 @@ use lib.Dec.{eqb}
 use Rattle.answer.specs.declared.Answer.the-variants.{Accepted, WrongLength}
 use Rattle.log.specs.Entries.{freshLog, appendOf, flushLogOf, endReleaseOf, fenceLogOf, evictSlotOf, pruneOf}
 use Rattle.log.specs.Regions.{oldestRegion}
-use Rattle.stretch.specs.Stretch.{stretchWords}
+use Rattle.ring.specs.Ring.{slotCount}
 use Rattle.log.specs.declared.Log.{Log}
 use Rattle.log.proofs.SlotLaws.{length-persistSlot, length-persistFrom}
 use Rattle.machine.specs.Effects.{loadEffect, logEffect, storeEffect, acquireEffect, logReleaseEffect, releaseEffect, flushEffect, flushLogEffect, fenceEffect, pruneEffect, evictEffect, evictLogEffect, effect}
@@ -20,21 +20,21 @@ use Rattle.machine.specs.declared.Machine.{Machine}
 use Rattle.machine.specs.declared.Stepped.{Stepped}
 use Rattle.machine.proofs.StepLaws.{after-keeps}
 
--- how many persisted words each log has
-stretchLengths : List Log → List ℕ
-stretchLengths logs = map (λ log. length (log .persisted)) logs
+-- how many persisted slots each log has
+slotCounts : List Log → List ℕ
+slotCounts logs = map (λ log. length (log .persisted)) logs
 
--- each log has as many as its stretch of an image
+-- each log has 64 of them
 pub record Stretched (machine : Machine) : Type 0 where
-  whole : stretchLengths (machine .logs) ≡ replicate threadCount stretchWords
+  whole : slotCounts (machine .logs) ≡ replicate threadCount slotCount
 
 -- a log that is put in place has as many as the one that stood there
 module _ (machine : Machine) (thread : ℕ) (log : Log) where
-  put-same : length (log .persisted) ≡ length (logOf machine thread .persisted) → stretchLengths (withLog machine thread log .logs) ≡ stretchLengths (machine .logs)
-  unfolding stretchLengths
+  put-same : length (log .persisted) ≡ length (logOf machine thread .persisted) → slotCounts (withLog machine thread log .logs) ≡ slotCounts (machine .logs)
+  unfolding slotCounts
   put-same same = map-set-same (λ other. length (other .persisted)) (machine .logs) thread log noLog same
 
-effect-same : (machine : Machine) (kind : Kind) (thread place value : ℕ) → stretchLengths (effect machine kind thread place value .machine .logs) ≡ stretchLengths (machine .logs)
+effect-same : (machine : Machine) (kind : Kind) (thread place value : ℕ) → slotCounts (effect machine kind thread place value .machine .logs) ≡ slotCounts (machine .logs)
 unfolding effect loadEffect logEffect storeEffect acquireEffect logReleaseEffect releaseEffect flushEffect flushLogEffect fenceEffect pruneEffect evictEffect evictLogEffect appendOf flushLogOf endReleaseOf fenceLogOf evictSlotOf pruneOf
 effect-same machine LOAD thread place value = refl
 effect-same machine LOG thread place value = put-same machine thread _ refl
@@ -50,7 +50,7 @@ effect-same machine EVICT thread place value = refl
 effect-same machine EVICTLOG thread place value = put-same machine thread (evictSlotOf (logOf machine thread) place) (length-persistSlot _ _ _)
 
 fresh-stretched : (cells : List ℕ) → Stretched (freshMachine cells)
-unfolding freshMachine freshLog stretchLengths
+unfolding freshMachine freshLog slotCounts
 fresh-stretched cells = record { whole = refl }
 
 start-stretched : (words : List ℕ) → Stretched (startOf words .machine)
@@ -72,13 +72,13 @@ reached-stretched machine reached =
     (reached .steps))
 
 pub all-logs : (machine : Machine) → Stretched machine → length (machine .logs) ≡ threadCount
-unfolding stretchLengths
+unfolding slotCounts
 all-logs machine stretched = sym (length-map (machine .logs) (λ log. length (log .persisted))) ∙ ap length (stretched .whole)
 
--- a thread's log has all of its words
-pub whole-stretch : (machine : Machine) → Stretched machine → (thread : ℕ) → thread < threadCount → length (logOf machine thread .persisted) ≡ stretchWords
-unfolding stretchLengths
-whole-stretch machine stretched thread below =
+-- a thread's log has all of its slots
+pub all-slots : (machine : Machine) → Stretched machine → (thread : ℕ) → thread < threadCount → length (logOf machine thread .persisted) ≡ slotCount
+unfolding slotCounts
+all-slots machine stretched thread below =
     sym (List·getD-map (λ log. length (log .persisted)) (machine .logs) thread noLog) ∙
     ap (λ (lengths : List ℕ). getD lengths thread 0) (stretched .whole) ∙
-    getD-replicate threadCount thread stretchWords 0 below
+    getD-replicate threadCount thread slotCount 0 below

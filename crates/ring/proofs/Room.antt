@@ -1,16 +1,15 @@
 -- What the tests of an append decide, 6 and then 5, whatever a refusal and the outcome are. Whoever appends cites these.
 use Prim.Native.Nat.{ℕ, _+_, _-_, _<_, _≤_}
 use native.Mathlib.Omega.{arith}
-use mathlib.Core.Bool.{Bool, true, false}
-use mathlib.Core.List.{List, [], _∷_}
+use mathlib.Core.Bool.{false}
 use mathlib.Core.Logic.{_⊎_, inl, inr}
 use mathlib.Core.Path.{_≡_, refl}
-use lib.Dec.{leb}
 use borrow.Author.Tests.{le-leb, lt-leb}
 use Rattle.answer.specs.Answer.{isAccepted}
-use Rattle.answer.specs.Refusals.{Test, _⇒_, unless}
+use Rattle.answer.specs.Refusals.{unless}
 use Rattle.answer.specs.declared.Answer.{Answer}
 use Rattle.answer.specs.declared.Answer.the-variants.{Accepted, LogFull, LsnsUsedUp}
+use Rattle.answer.proofs.RefusalLaws.{unless-both}
 use Rattle.ring.specs.Ring.{slotCount, lastLsn, roomTests, growOf, grownTail}
 use Rattle.ring.specs.declared.Grown.{Grown}
 use Rattle.ring.specs.declared.Releasing.{Releasing}
@@ -35,16 +34,16 @@ module _ {A : Type 0} (refuse : Answer → A) (outcome : A) (tail : Tail) (head 
       ((grown ≡ record { answer = Accepted (tail .next .0); tail = grownTail tail closes }) × (result ≡ outcome))
       ⊎ ((isAccepted (grown .answer) ≡ false) × (grown .tail ≡ tail) × (result ≡ refuse (grown .answer)))
 
-  by-tests : (closes : Releasing) (over none : Bool)
-      → (let tests : List Test = (over ⇒ LsnsUsedUp) ∷ (none ⇒ LogFull) ∷ [] in
-      Decided closes
-      (unless (λ answer. record { answer = answer; tail = tail }) tests (record { answer = Accepted (tail .next .0); tail = grownTail tail closes }))
-      (unless refuse tests outcome))
-  unfolding unless
-  by-tests closes true none = inr (refl, refl, refl)
-  by-tests closes false true = inr (refl, refl, refl)
-  by-tests closes false false = inl (refl, refl)
-
   pub decided : (closes : Releasing) → Decided closes (growOf tail head closes) (unless refuse (roomTests tail head) outcome)
   unfolding growOf roomTests
-  decided closes = by-tests closes (leb (lastLsn + 1) (tail .next .0)) (leb slotCount (tail .next .0 - head))
+  decided closes =
+      unless-both
+      (λ result grown. Decided closes grown result)
+      refuse
+      (λ answer. record { answer = answer; tail = tail })
+      (roomTests tail head)
+      outcome
+      (record { answer = Accepted (tail .next .0); tail = grownTail tail closes })
+      (refl, (refl, tt))
+      (λ answer refuses. inr (refuses, refl, refl))
+      (λ fails. inl (refl, refl))

@@ -1,26 +1,27 @@
 -- `cache::Cache::fence` meets its contract: each turn of the loop is a turn of the walk over the lines.
 use Prim.Native.Nat.{_-_}
 use native.Mathlib.Omega.{arith}
-use mathlib.Core.Path.{sym, _∙_}
+use mathlib.Core.Path.{_≡_, refl, sym, ap, _∙_}
 use mathlib.Core.Logic.{⊎-elim}
 use borrow.Author.Needs.{needs}
+use Rattle.cache.specs.declared.Cache.{Cache}
 use Rattle.cache.proofs.CacheLaws.{Sized, fenceOf-out}
 use Rattle.cache.proofs.Fences.{FenceAt, fence-same, fence-starts, fence-reads, fence-persisted-long, fence-durable-long, fence-turn, fence-skip, fence-done}
 use Rattle.cache.proofs.Cache.fence.Statement.{statement}
 use Rattle.cache.proofs.Cache.fence.Tie as tie
 
 abbrev Inv-loop : tie.InvT-loop
-Inv-loop self thread cached persisted₀ durable₀ pending₀ line₀ persisted durable pending line =
-    FenceAt self thread line persisted durable pending
+Inv-loop thread self₀ cached line₀ self line =
+    FenceAt self₀ thread line (self .persisted) (self .durable) (self .pending) × (self .cached ≡ self₀ .cached)
 
 abbrev μ-loop : tie.MeasureT-loop
-μ-loop self thread cached persisted₀ durable₀ pending₀ line₀ persisted durable pending line = 16 - line
+μ-loop thread self₀ cached line₀ self line = 16 - line
 
-sized : (c : tie.Start Inv-loop μ-loop) → Sized (c .args .self)
+sized : (c : tie.Start Inv-loop μ-loop) → Sized (c .args .t1)
 sized c = search needs
 
 loop-holds : tie.Need-loop-holds Inv-loop μ-loop
-loop-holds c = fence-starts (sized (c .before .before .before .before .before)) (omega arith)
+loop-holds c = (fence-starts (sized (c .before .before)) (omega arith), refl)
 
 mul-place : tie.Need-mul-place Inv-loop μ-loop
 mul-place c = search needs
@@ -28,17 +29,17 @@ mul-place c = search needs
 add-place : tie.Need-add-place Inv-loop μ-loop
 add-place c = search needs
 
-array-read-if2 : tie.Need-array-read-if2 Inv-loop μ-loop
-array-read-if2 c = search needs
+element-copy-out-if2 : tie.Need-element-copy-out-if2 Inv-loop μ-loop
+element-copy-out-if2 c = search needs
 
 copy-line-requires : tie.Need-copy-line-requires Inv-loop μ-loop
-copy-line-requires c κs = (search needs, search needs, fence-persisted-long (c .before .before .before .before .loop .inv))
+copy-line-requires c κs = (search needs, search needs, fence-persisted-long (c .before .before .before .before .before .loop .inv .0))
 
 set-line-requires : tie.Need-set-line-requires Inv-loop μ-loop
-set-line-requires c κs = (search needs, fence-durable-long (c .before .before .before .before .before .before .loop .inv))
+set-line-requires c κs = (search needs, fence-durable-long (c .before .before .before .before .before .before .before .loop .inv .0))
 
-array-write-pending : tie.Need-array-write-pending Inv-loop μ-loop
-array-write-pending c = search needs
+element-write-self : tie.Need-element-write-self Inv-loop μ-loop
+element-write-self c = search needs
 
 add-line : tie.Need-add-line Inv-loop μ-loop
 add-line c = search needs
@@ -48,17 +49,35 @@ loop-less c = search needs
 
 loop-again : tie.Need-loop-again Inv-loop μ-loop
 loop-again c =
-    let at = c .before .before .loop .inv in
+    let l = c .before .before .before .loop in
+    let at = l .inv .0 in
     ⊎-elim
-    (λ w. fence-same (fence-turn at (omega arith) (sym (fence-reads at) ∙ w .0 .taken)) (w .6 ∙ w .3 .ensures) (w .7 ∙ w .5 .ensures) (w .8))
-    (λ w. fence-same (fence-skip at (omega arith) (sym (fence-reads at) ∙ w .0 .left)) (w .1) (w .2) (w .3))
+    (λ w. (
+      fence-same
+          (fence-turn at (omega arith) (sym (fence-reads at) ∙ w .0 .taken))
+          (ap (λ (cache : Cache). cache .persisted) (w .6) ∙ w .3 .ensures)
+          (ap (λ (cache : Cache). cache .durable) (w .6) ∙ w .5 .ensures)
+          (ap (λ (cache : Cache). cache .pending) (w .6)),
+      ap (λ (cache : Cache). cache .cached) (w .6) ∙ l .inv .1,
+    ))
+    (λ w. (
+      fence-same
+          (fence-skip at (omega arith) (sym (fence-reads at) ∙ w .0 .left))
+          (ap (λ (cache : Cache). cache .persisted) (w .1))
+          (ap (λ (cache : Cache). cache .durable) (w .1))
+          (ap (λ (cache : Cache). cache .pending) (w .1)),
+      ap (λ (cache : Cache). cache .cached) (w .1) ∙ l .inv .1,
+    ))
     (c .if2 .came)
 
 returns : tie.Need-returns Inv-loop μ-loop
-returns c = fence-done (c .before .loop .inv) (omega arith)
+returns c =
+    let l = c .before .loop in
+    ap (λ cached. record { cached = cached; persisted = l .self .persisted; durable = l .self .durable; pending = l .self .pending }) (l .inv .1)
+    ∙ fence-done (l .inv .0) (omega arith)
 
 returns-2 : tie.Need-returns-2 Inv-loop μ-loop
-returns-2 c = sym (fenceOf-out (c .before .args .self) (sized (c .before)) (c .before .args .thread) (omega arith))
+returns-2 c = sym (fenceOf-out (c .before .args .t1) (sized (c .before)) (c .before .args .thread) (omega arith))
 
 pub fence-spec : {M : Type 1} → statement M
 fence-spec =
@@ -69,10 +88,10 @@ fence-spec =
     loop-holds
     mul-place
     add-place
-    array-read-if2
+    element-copy-out-if2
     copy-line-requires
     set-line-requires
-    array-write-pending
+    element-write-self
     add-line
     loop-less
     loop-again

@@ -32,19 +32,23 @@ returns c =
 cast-slot : tie.Need-cast-slot
 cast-slot c = search needs
 
-mul-t15 : tie.Need-mul-t15
-mul-t15 c = search needs
+new-requires : tie.Need-new-requires
+new-requires c κs = search needs
+
+mul-t16 : tie.Need-mul-t16
+mul-t16 c = search needs
 
 element-set-from-self : tie.Need-element-set-from-self
 element-set-from-self c = search needs
 
 returns-2 : tie.Need-returns-2
 returns-2 c =
-    let g = c .before .before .before .before in
+    let n = c .before .before .before in
+    let g = n .before .before in
     let a = g .before .before .before .before .before .args in
-    rw (g .before .before .before .next-lsn .ensures)
+    rw (c .new .ensures, g .before .before .before .next-lsn .ensures)
     (append-accepted (a .t1) (a .event) (g .append-to .result) (grown-by g)
-    (sym (c .before .before .number .ensures) ∙ c .before .if1 .left))
+    (sym (n .number .ensures) ∙ c .before .before .if1 .left))
 
 pub append-spec : {M : Type 1} → statement M
 append-spec =
@@ -56,6 +60,7 @@ append-spec =
     number-requires
     returns
     cast-slot
-    mul-t15
+    new-requires
+    mul-t16
     element-set-from-self
     returns-2)

@@ -10,12 +10,12 @@ use Rattle.log.proofs.Log.evict_slot.Statement.{statement}
 use Rattle.log.proofs.Log.evict_slot.Tie as tie
 
 found-live : (c : tie.After-has-slot)
-    → isLiveSlot (c .before .before .before .before .args .self) (c .before .before .before .before .args .slot) ≡ c .has-slot .result
+    → isLiveSlot (c .before .before .before .before .args .t1) (c .before .before .before .before .args .slot) ≡ c .has-slot .result
 unfolding isLiveSlot
 found-live c = sym (c .has-slot .ensures ∙ rw (c .before .live-entries .ensures))
 
 low : (c : tie.Then1) → c .before .before .before .before .before .args .slot < 64
-low c = let a = c .before .before .before .before .before .args in slot-of-run-low (a .self .head .0) (a .slot) _ (sym (c .before .has-slot .ensures) ∙ c .if1 .taken)
+low c = let a = c .before .before .before .before .before .args in slot-of-run-low (a .t1 .head .0) (a .slot) _ (sym (c .before .has-slot .ensures) ∙ c .if1 .taken)
 
 live-entries-requires : tie.Need-live-entries-requires
 live-entries-requires c κs = search needs
@@ -23,20 +23,26 @@ live-entries-requires c κs = search needs
 has-slot-requires : tie.Need-has-slot-requires
 has-slot-requires c κs = search needs
 
-mul-entry : tie.Need-mul-entry
-mul-entry c = omega (arith, low (c .before .before))
+mul-held : tie.Need-mul-held
+mul-held c = omega (arith, low c)
 
-array-copy-out-entry : tie.Need-array-copy-out-entry
-array-copy-out-entry c = low (c .before .before)
+element-copy-out-held : tie.Need-element-copy-out-held
+element-copy-out-held c = low c
 
-persist-requires : tie.Need-persist-requires
-persist-requires c κs = low (c .before .before .before .before)
+persisted-requires : tie.Need-persisted-requires
+persisted-requires c κs = search needs
+
+mul-t11 : tie.Need-mul-t11
+mul-t11 c = omega (arith, low (c .before .before))
+
+element-set-from-self : tie.Need-element-set-from-self
+element-set-from-self c = low (c .before .before)
 
 returns : tie.Need-returns
 unfolding evictedOf evictSlotTests evictSlotOf persistSlot unless
 returns c =
-    let t = c .before .before .before .before .before in
-    rw (found-live (t .before), t .if1 .taken, c .persist .ensures)
+    let t = c .before .before in
+    rw (found-live (t .before), t .if1 .taken, c .persisted .ensures)
 
 returns-2 : tie.Need-returns-2
 unfolding evictedOf evictSlotTests unless
@@ -48,8 +54,10 @@ evict-slot-spec =
     (tie.spec
     live-entries-requires
     has-slot-requires
-    mul-entry
-    array-copy-out-entry
-    persist-requires
+    mul-held
+    element-copy-out-held
+    persisted-requires
+    mul-t11
+    element-set-from-self
     returns
     returns-2)

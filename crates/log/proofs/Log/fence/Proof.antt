@@ -12,11 +12,11 @@ use Rattle.log.proofs.Log.fence.Statement.{statement}
 use Rattle.log.proofs.Log.fence.Tie as tie
 
 abbrev Inv-loop : tie.InvT-loop
-Inv-loop self before durable cached persisted₀ count done₀ persisted done =
-    (done ≤ count) × (persisted ≡ persistFrom cached persisted₀ (durable .0 + 1) done)
+Inv-loop self₀ before durable count done₀ self done =
+    (done ≤ count) × (self ≡ withPersisted self₀ (persistFrom (self₀ .cached) (self₀ .persisted) (durable .0 + 1) done))
 
 abbrev μ-loop : tie.MeasureT-loop
-μ-loop self before durable cached persisted₀ count done₀ persisted done = count - done
+μ-loop self₀ before durable count done₀ self done = count - done
 
 durable-lsn-requires : tie.Need-durable-lsn-requires Inv-loop μ-loop
 durable-lsn-requires c κs = search needs
@@ -40,14 +40,20 @@ add-slot-after c = search needs
 slot-after-requires : tie.Need-slot-after-requires Inv-loop μ-loop
 slot-after-requires c κs = search needs
 
-mul-entry : tie.Need-mul-entry Inv-loop μ-loop
-mul-entry c = search needs
+mul-held : tie.Need-mul-held Inv-loop μ-loop
+mul-held c = search needs
 
-array-copy-out-entry : tie.Need-array-copy-out-entry Inv-loop μ-loop
-array-copy-out-entry c = search needs
+element-copy-out-held : tie.Need-element-copy-out-held Inv-loop μ-loop
+element-copy-out-held c = search needs
 
-persist-requires : tie.Need-persist-requires Inv-loop μ-loop
-persist-requires c κs = search needs
+persisted-requires : tie.Need-persisted-requires Inv-loop μ-loop
+persisted-requires c κs = search needs
+
+mul-t14 : tie.Need-mul-t14 Inv-loop μ-loop
+mul-t14 c = search needs
+
+element-set-from-self : tie.Need-element-set-from-self Inv-loop μ-loop
+element-set-from-self c = search needs
 
 add-done : tie.Need-add-done Inv-loop μ-loop
 add-done c = search needs
@@ -58,11 +64,11 @@ loop-less c = search needs
 loop-again : tie.Need-loop-again Inv-loop μ-loop
 unfolding persistFrom persistSlot
 loop-again c =
-    let l = c .before .before .before .before .before in
-    let durable = l .before .before .before .before .before .durable-lsn .result in
-    let slot : c .before .before .before .slot-after .result ≡ slotOf (durable .0 + 1 + l .loop .done) =
-    omega (arith, c .before .before .before .slot-after .ensures) in
-    (search needs, c .persist .ensures ∙ rw (slot, l .loop .inv .1, add-one (l .loop .done)))
+    let l = c .before .before .before .before in
+    let durable = l .before .before .before .durable-lsn .result in
+    let slot : c .before .before .slot-after .result ≡ slotOf (durable .0 + 1 + l .loop .done) =
+    omega (arith, c .before .before .slot-after .ensures) in
+    (search needs, rw (c .persisted .ensures, slot, l .loop .inv .1, add-one (l .loop .done)))
 
 fenced-requires : tie.Need-fenced-requires Inv-loop μ-loop
 fenced-requires c κs = search needs
@@ -71,11 +77,11 @@ returns : tie.Need-returns Inv-loop μ-loop
 unfolding fenceLogOf
 returns c =
     let l = c .before .before in
-    let a = l .before .before .before .before .before .before .before .args .self in
-    let flushed = l .before .before .before .before .flushed-lsn .ensures in
-    let durable = l .before .before .before .before .before .durable-lsn .ensures in
+    let f = l .before .before in
+    let a = f .before .before .before .args .t1 in
+    let durable = f .before .durable-lsn .ensures in
     let all : l .loop .done ≡ a .tail .flushed .0 - a .tail .durable .0 =
-    omega (arith, ap (λ (lsn : Lsn). lsn .0) flushed, ap (λ (lsn : Lsn). lsn .0) durable) in
+    omega (arith, ap (λ (lsn : Lsn). lsn .0) (f .flushed-lsn .ensures), ap (λ (lsn : Lsn). lsn .0) durable) in
     let persisted = persistFrom (a .cached) (a .persisted) (a .tail .durable .0 + 1) (a .tail .flushed .0 - a .tail .durable .0) in
     rw (l .loop .inv .1, all, durable) (ap (withTail (withPersisted a persisted)) (c .fenced .ensures))
 
@@ -92,9 +98,11 @@ fence-spec =
     loop-holds
     add-slot-after
     slot-after-requires
-    mul-entry
-    array-copy-out-entry
-    persist-requires
+    mul-held
+    element-copy-out-held
+    persisted-requires
+    mul-t14
+    element-set-from-self
     add-done
     loop-less
     loop-again

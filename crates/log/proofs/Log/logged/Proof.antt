@@ -7,7 +7,7 @@ use borrow.Author.Needs.{needs}
 use borrow.Author.Tests.{eq-eqb, ne-eqb}
 use lib.ListN.{getD}
 use Rattle.ring.specs.Ring.{lsn}
-use Rattle.log.specs.Entries.{liveCount, liveEvent, untouched}
+use Rattle.log.specs.Entries.{eventOf, liveCount, liveEvent, untouched}
 use Rattle.log.specs.Regions.{searched, loggedAmong, loggedOf}
 use Rattle.log.specs.declared.Event.{Event}
 use Rattle.log.specs.declared.Event.the-variants.{Empty, Store, Acquire, Release}
@@ -39,11 +39,14 @@ cast-slot-after c = search needs
 slot-after-requires : tie.Need-slot-after-requires Inv-loop μ-loop
 slot-after-requires c κs = search needs
 
-mul-entry : tie.Need-mul-entry Inv-loop μ-loop
-mul-entry c = search needs
+mul-held : tie.Need-mul-held Inv-loop μ-loop
+mul-held c = search needs
 
-array-copy-out-entry : tie.Need-array-copy-out-entry Inv-loop μ-loop
-array-copy-out-entry c = search needs
+array-copy-out-held : tie.Need-array-copy-out-held Inv-loop μ-loop
+array-copy-out-held c = search needs
+
+event-requires : tie.Need-event-requires Inv-loop μ-loop
+event-requires c κs = search needs
 
 -- the log at the loop, and what the loop sees of it
 abbrev self-at : tie.At-loop Inv-loop μ-loop → Log
@@ -64,15 +67,15 @@ whole c =
     ∙ ap (loggedAmong (seen-at c) (cell-at c)) (sym (c .before .live-entries .ensures))
 
 -- a turn of it, by what the entry says
-module _ (c : tie.After-entry Inv-loop μ-loop) where
+module _ (c : tie.After-event Inv-loop μ-loop) where
   abbrev at : tie.At-loop Inv-loop μ-loop
-  at = c .before .before .before
+  at = c .before .before .before .before
 
-  turn : (event : Event) → getD (self-at at .cached) (c .before .slot-after .result) untouched .event ≡ event
+  turn : (event : Event) → c .event .result ≡ event
       → loggedAmong (seen-at at) (cell-at at) (at .before .live-entries .result) ≡ searched event (cell-at at) (At (lsn (self-at at .head .0 + (at .loop .left - 1)))) (loggedAmong (seen-at at) (cell-at at) (at .loop .left - 1))
   turn event says =
       let live : liveEvent (seen-at at) (at .loop .left - 1) ≡ event =
-      ap (λ slot. getD (self-at at .cached) slot untouched .event) (sym (c .before .slot-after .ensures)) ∙ says in
+      ap (λ slot. eventOf (getD (self-at at .cached) slot untouched .entry)) (sym (c .before .before .slot-after .ensures)) ∙ sym (c .event .ensures) ∙ says in
       at .loop .inv .1
       ∙ logged-turn (seen-at at) (cell-at at) (at .loop .left) (omega arith)
       ∙ rw live
@@ -89,13 +92,13 @@ enum-known-event c = search needs
 cast-if1 : tie.Need-cast-if1 Inv-loop μ-loop
 cast-if1 c = search needs
 
-add-t18 : tie.Need-add-t18 Inv-loop μ-loop
-add-t18 c = search needs
+add-t19 : tie.Need-add-t19 Inv-loop μ-loop
+add-t19 c = search needs
 
 returns-2 : tie.Need-returns-2 Inv-loop μ-loop
 returns-2 c =
     let e = c .before .before .before .before .before in
-    sym (whole (at e) ∙ turn e (Store _ _) (c .before .before .before .event .given .1) ∙ rw (eq-eqb _ _ (c .before .if1 .taken)))
+    sym (whole (at e) ∙ turn e (Store _ _) (c .before .before .before .event2 .given .1) ∙ rw (eq-eqb _ _ (c .before .if1 .taken)))
 
 loop-less : tie.Need-loop-less Inv-loop μ-loop
 loop-less c = search needs
@@ -103,7 +106,7 @@ loop-less c = search needs
 loop-again : tie.Need-loop-again Inv-loop μ-loop
 loop-again c =
     let e = c .before .before .before .before in
-    (search needs, turn e (Store _ _) (c .before .before .event .given .1) ∙ rw (ne-eqb _ _ (c .if1 .left)))
+    (search needs, turn e (Store _ _) (c .before .before .event2 .given .1) ∙ rw (ne-eqb _ _ (c .if1 .left)))
 
 enum-told-2 : tie.Need-enum-told-2 Inv-loop μ-loop
 enum-told-2 c = search needs
@@ -134,13 +137,14 @@ logged-spec =
     sub-left
     cast-slot-after
     slot-after-requires
-    mul-entry
-    array-copy-out-entry
+    mul-held
+    array-copy-out-held
+    event-requires
     enum-told
     returns
     enum-known-event
     cast-if1
-    add-t18
+    add-t19
     returns-2
     loop-less
     loop-again

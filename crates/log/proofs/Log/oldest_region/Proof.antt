@@ -30,11 +30,14 @@ returns c = sym (no-region (c .before .before .before .before .before .args .sel
 slot-after-requires : tie.Need-slot-after-requires Inv-loop μ-loop
 slot-after-requires c κs = search needs
 
-mul-entry : tie.Need-mul-entry Inv-loop μ-loop
-mul-entry c = search needs
+mul-held : tie.Need-mul-held Inv-loop μ-loop
+mul-held c = search needs
 
-array-copy-out-entry : tie.Need-array-copy-out-entry Inv-loop μ-loop
-array-copy-out-entry c = search needs
+array-copy-out-held : tie.Need-array-copy-out-held Inv-loop μ-loop
+array-copy-out-held c = search needs
+
+event-requires : tie.Need-event-requires Inv-loop μ-loop
+event-requires c κs = search needs
 
 is-release-requires : tie.Need-is-release-requires Inv-loop μ-loop
 is-release-requires c κs = search needs
@@ -45,42 +48,44 @@ live c none = c .if1 .left (c .before .live-entries .ensures ∙ none)
 
 -- what the first test found is what the oldest live entry says
 first : (c : tie.After-is-release Inv-loop μ-loop)
-    → isRelease (liveEvent (c .before .before .before .before .before .before .before .before .args .self) 0) ≡ c .is-release .result
-first c = sym (c .is-release .ensures ∙ rw (c .before .before .slot-after .ensures))
+    → isRelease (liveEvent (c .before .before .before .before .before .before .before .before .before .args .self) 0) ≡ c .is-release .result
+first c = sym (c .is-release .ensures ∙ rw (c .before .event .ensures, c .before .before .before .slot-after .ensures))
 
 returns-2 : tie.Need-returns-2 Inv-loop μ-loop
 returns-2 c =
     sym
-    (region-of-release (c .before .before .before .before .before .before .before .before .before .args .self) (live (c .before .before .before .before))
+    (region-of-release (c .before .before .before .before .before .before .before .before .before .before .args .self) (live (c .before .before .before .before .before))
     (first (c .before) ∙ c .if2 .taken))
 
 -- the log at the loop, and what the loop sees of it
 abbrev self-at : tie.At-loop Inv-loop μ-loop → Log
-self-at c = c .before .before .before .before .before .before .before .before .before .before .args .self
+self-at c = c .before .before .before .before .before .before .before .before .before .before .before .args .self
 
 abbrev seen-at : tie.At-loop Inv-loop μ-loop → Log
 seen-at c = seen (self-at c .cached) (self-at c .head)
 
 -- how many entries are live
 abbrev live-at : tie.At-loop Inv-loop μ-loop → ℕ
-live-at c = c .before .before .before .before .before .before .live-entries .result
+live-at c = c .before .before .before .before .before .before .before .live-entries .result
 
 -- the region is the entries passed, and those that go on from there
 so-far : (c : tie.At-loop Inv-loop μ-loop)
     → oldestRegion (self-at c) ≡ c .loop .count + goesOn (seen-at c) (c .loop .count) (live-at c - c .loop .count)
 so-far c =
-    let o = c .before .before .before .before .before in
+    let o = c .before .before .before .before .before .before in
     region-goes-on (self-at c) (live o) (first (c .before .before) ∙ c .before .if2 .left)
     ∙ rw (← o .before .live-entries .ensures) (sym (c .loop .inv .1))
 
 -- what the tests in the loop found is what the entry says
 acquires : (c : tie.After-is-acquire Inv-loop μ-loop)
-    → let l = c .before .before .before .before in isAcquire (liveEvent (seen-at l) (l .loop .count)) ≡ c .is-acquire .result
-acquires c = sym (c .is-acquire .ensures ∙ rw (c .before .before .slot-after2 .ensures))
+    → let l = c .before .before .before .before .before in isAcquire (liveEvent (seen-at l) (l .loop .count)) ≡ c .is-acquire .result
+acquires c = sym (c .is-acquire .ensures ∙ rw (c .before .event2 .ensures, c .before .before .before .slot-after2 .ensures))
 
 releases : (c : tie.After-is-release2 Inv-loop μ-loop)
-    → let l = c .before .before .before .before .before .before in isRelease (liveEvent (seen-at l) (l .loop .count)) ≡ c .is-release2 .result
-releases c = sym (c .is-release2 .ensures ∙ rw (c .before .before .before .before .slot-after2 .ensures))
+    → let l = c .before .before .before .before .before .before .before in isRelease (liveEvent (seen-at l) (l .loop .count)) ≡ c .is-release2 .result
+releases c =
+    let e = c .before .before .before in
+    sym (c .is-release2 .ensures ∙ rw (e .event2 .ensures, e .before .before .slot-after2 .ensures))
 
 loop-holds : tie.Need-loop-holds Inv-loop μ-loop
 loop-holds c = (search needs, refl)
@@ -88,18 +93,21 @@ loop-holds c = (search needs, refl)
 slot-after-requires-2 : tie.Need-slot-after-requires-2 Inv-loop μ-loop
 slot-after-requires-2 c κs = search needs
 
-mul-entry-2 : tie.Need-mul-entry-2 Inv-loop μ-loop
-mul-entry-2 c = search needs
+mul-held-2 : tie.Need-mul-held-2 Inv-loop μ-loop
+mul-held-2 c = search needs
 
-array-copy-out-entry-2 : tie.Need-array-copy-out-entry-2 Inv-loop μ-loop
-array-copy-out-entry-2 c = search needs
+array-copy-out-held-2 : tie.Need-array-copy-out-held-2 Inv-loop μ-loop
+array-copy-out-held-2 c = search needs
+
+event-requires-2 : tie.Need-event-requires-2 Inv-loop μ-loop
+event-requires-2 c κs = search needs
 
 is-acquire-requires : tie.Need-is-acquire-requires Inv-loop μ-loop
 is-acquire-requires c κs = search needs
 
 returns-3 : tie.Need-returns-3 Inv-loop μ-loop
 returns-3 c =
-    let l = c .before .before .before .before .before in
+    let l = c .before .before .before .before .before .before in
     omega
     (arith, so-far l, goes-on-stops (seen-at l) (l .loop .count) (live-at l) (search needs) (acquires (c .before) ∙ c .if3 .taken))
 
@@ -112,7 +120,7 @@ is-release-requires-2 c κs = search needs
 returns-4 : tie.Need-returns-4 Inv-loop μ-loop
 returns-4 c =
     let o = c .before .before in
-    let l = o .before .before .before .before .before in
+    let l = o .before .before .before .before .before .before in
     omega
     (arith, so-far l, goes-on-ends (seen-at l) (l .loop .count) (live-at l) (search needs) (acquires (o .before) ∙ o .if3 .left) (releases (c .before) ∙ c .if4 .taken))
 
@@ -122,7 +130,7 @@ loop-less c = search needs
 loop-again : tie.Need-loop-again Inv-loop μ-loop
 loop-again c =
     let o = c .before .before in
-    let l = o .before .before .before .before .before in
+    let l = o .before .before .before .before .before .before in
     let on = goes-on-turn (seen-at l) (l .loop .count) (live-at l) (search needs) (acquires (o .before) ∙ o .if3 .left) (releases (c .before) ∙ c .if4 .left) in
     (search needs, omega (arith, on, l .loop .inv .1))
 
@@ -143,14 +151,16 @@ oldest-region-spec =
     cast-live
     returns
     slot-after-requires
-    mul-entry
-    array-copy-out-entry
+    mul-held
+    array-copy-out-held
+    event-requires
     is-release-requires
     returns-2
     loop-holds
     slot-after-requires-2
-    mul-entry-2
-    array-copy-out-entry-2
+    mul-held-2
+    array-copy-out-held-2
+    event-requires-2
     is-acquire-requires
     returns-3
     add-count

@@ -1,12 +1,12 @@
 -- `machine::Accesses::log_races` meets its contract.
 use Prim.Native.Nat.{_+_, _*_}
-use mathlib.Core.Path.{_≡_}
+use mathlib.Core.Path.{_≡_, _∙_}
 use native.Mathlib.Omega.{arith}
 use lib.ListN.{getD}
 use Rattle.answer.specs.Lists.{someBelow}
 use Rattle.machine.specs.Clocks.{clockAt}
 use borrow.Author.Tests.{lt-leb, le-leb}
-use Rattle.machine.proofs.Tested.{below-or}
+use Rattle.machine.proofs.Tested.{below-not, or-false}
 use borrow.Author.Needs.{needs}
 use Rattle.machine.proofs.Accesses.log_races.Statement.{statement}
 use Rattle.machine.proofs.Accesses.log_races.Tie as tie
@@ -61,7 +61,14 @@ array-read-result c = search needs
 
 returns-4 : tie.Need-returns-4
 unfolding someBelow clockAt
-returns-4 c = let start : c .before .before .before .before .before .before .before .before .args .cell * 4 + 0 ≡ c .before .before .before .before .before .before .before .before .args .cell * 4 = omega arith in rw (start, le-leb _ _ (c .before .before .before .before .before .if1 .left), le-leb _ _ (c .before .before .before .if2 .left), le-leb _ _ (c .before .if3 .left)) (below-or (c .before .before .before .before .before .before .before .before .args .clock .t0) (getD (c .before .before .before .before .before .before .before .before .args .self .stamps) (c .before .before .before .before .before .before .before .before .args .cell * 4) 0))
+returns-4 c =
+    let third = c .before in
+    let second = third .before .before in
+    let first = second .before .before in
+    let a = first .before .before .before .args in
+    let start : a .cell * 4 + 0 ≡ a .cell * 4 = omega arith in
+    rw (start, le-leb _ _ (first .if1 .left), le-leb _ _ (second .if2 .left), le-leb _ _ (third .if3 .left))
+    (below-not (a .clock .t0) (getD (a .self .stamps) (a .cell * 4) 0) ∙ or-false _)
 
 pub log-races-spec : {M : Type 1} → statement M
 log-races-spec =

@@ -149,7 +149,7 @@ finished : (c : tie.Then8) → let a = c .before .before .before .before .before
 unfolding stateTests pruneTests
 finished c =
     let a = c .before .before .before .before .before .before .before .before .before .before .before .args in
-    not-false _ (none-holds (pruneTests (logOf (a .t1) (a .thread)) (a .t1 .cache) (a .t1 .locks)) (state-refuses (a .t1) PRUNE (a .thread) 0) (prunes c) .0)
+    not-false _ (none-holds (pruneTests (logOf (a .t1) (a .thread)) (a .t1 .cache) (a .t1 .locks)) (state-refuses (a .t1) PRUNE (a .thread) 0) (prunes c) .1 .0)
 
 -- an accepted kind that is none of the first eleven is EVICTLOG
 is-last : (c : tie.At-match-rest) → c .before .before .before .before .before .before .before .args .kind ≡ 12

@@ -1,0 +1,83 @@
+// Takes 100,800 steps of all twelve kinds, all accepted, so that a step can be timed: 100 runs of 72 rounds of 14 steps, by the four threads
+// in turn. Prints the number of steps and the sum of the runs' last answers: each run ends in a PRUNE that frees 3 entries.
+ghost use mathlib.Core.Path.{_≡_};
+ghost use lib.ListN.{length};
+
+// A round: ACQUIRE, LOG, FLUSHLOG, FENCE, STORE, LOAD, LOGREL, FLUSHLOG, FLUSH, FENCE, RELEASE, EVICT, EVICTLOG, PRUNE.
+const KINDS: [u64; 14] = [4, 2, 8, 9, 3, 1, 5, 8, 7, 9, 6, 11, 12, 10];
+
+// The place in each: lock 2, cell 5, lines 0 and 3. EVICTLOG's slot depends on the round.
+const PLACES: [u64; 14] = [2, 5, 0, 0, 5, 5, 2, 0, 0, 0, 2, 3, 0, 0];
+
+// The thread of a round's step: EVICT has none.
+fn thread_of(kind: u64, round: u64) -> u64 {
+    if kind == 11 {
+        return 0;
+    }
+    round % 4
+}
+
+// The place of a round's step. A thread makes three entries in every fourth round, the second by its LOG, which EVICTLOG names by its slot.
+fn place_of(kind: u64, place: u64, round: u64) -> u64 {
+    if kind == 12 {
+        return (round / 4 % 64 * 3 + 2) % 64;
+    }
+    place
+}
+
+// The value of a round's step: only STORE has one.
+fn value_of(kind: u64) -> u64 {
+    if kind == 3 {
+        return 7;
+    }
+    0
+}
+
+// The words of a run's steps.
+fn all_steps() -> [u64; 4032]
+    ensures { λ r. ⌜ 4032 ≡ length r ⌝ }
+{
+    let kinds = KINDS;
+    let places = PLACES;
+    let mut steps = [0u64; 4032];
+    let mut taken = 0;
+    while taken < 1008 {
+        let from = taken % 14;
+        let to = taken * 4;
+        let kind = kinds[from];
+        let place = places[from];
+        let round = taken as u64 / 14;
+        steps[to] = kind;
+        steps[to + 1] = thread_of(kind, round);
+        steps[to + 2] = place_of(kind, place, round);
+        steps[to + 3] = value_of(kind);
+        taken += 1;
+    }
+    steps
+}
+
+// The number beside the last answer of a run, and 0 where it is a refusal.
+fn last_given(start: &[u64], steps: &[u64]) -> u64 {
+    let stepped = atomicity::run(start, steps);
+    let answer = stepped.answer;
+    answer::value(answer)
+}
+
+// Writes a number and a byte after it.
+fn write_number(number: u64, end: &[u8]) {
+    io::print_decimal(1, number);
+    io::write_all(1, end);
+}
+
+fn main() {
+    let start = [0u64; 128];
+    let steps = all_steps();
+    let mut runs = 0u64;
+    let mut sum = 0u64;
+    while runs < 100 {
+        sum = (sum + last_given(&start, &steps) % 1000) % 1000;
+        runs += 1;
+    }
+    write_number(runs * 1008, b" ");
+    write_number(sum, b"\n");
+}
