@@ -1,20 +1,18 @@
 -- A cell's versions: each LOG of the cell, newest first, with the content after the last STORE made under it.
 -- Each version's entry has the content that the version before it left; versions are in order; a version that isn't durable changed
 -- nothing; and where no live version is durable the cell's persisted content is its cached one. Each kind of step keeps all of it.
-use Prim.Native.Nat.{ℕ, suc, _≤_, _<_}
+use Prim.Native.Nat.{ℕ, _≤_, _<_}
 use native.Mathlib.Decide.{decLt, ℕ-discrete}
 use native.Mathlib.Omega.{arith}
 use mathlib.Core.Path.{_≡_, refl, sym, ap, _∙_, subst}
-use mathlib.Core.Bool.{Bool, true, false, cond}
+use mathlib.Core.Bool.{true, false}
 use mathlib.Core.List.{List, [], _∷_}
-use mathlib.Core.Logic.{_⊎_, inl, inr, ⊎-elim, by-cases}
-use lib.Dec.{ltb}
-use borrow.Author.Tests.{lt-ltb, le-ltb}
+use mathlib.Core.Logic.{_⊎_, ⊎-elim, by-cases}
 use Rattle.log.specs.Regions.{isAcquire, isRelease}
 use Rattle.log.specs.declared.Event.{Event}
-use Rattle.log.specs.declared.Event.the-variants.{Empty, Store, Acquire, Release}
-use Rattle.atomicity.proofs.Logged.{Entries, Made, Is, IsReleaseOf, IsAcquireOf, Grows, Keeps, Appends, still-is, was, kept-is, made-cases, new-is, is-cases}
-use Rattle.atomicity.proofs.Leads.{Leads, inThread, byLock, through, leads-grow, leads-on, ReleasesFrom}
+use Rattle.log.specs.declared.Event.the-variants.{Store}
+use Rattle.atomicity.proofs.Logged.{Entries, Made, Is, Grows, Keeps, Appends, still-is, kept-is, new-is, is-cases}
+use Rattle.atomicity.proofs.Leads.{Leads, leads-grow, leads-on}
 
 -- a LOG of the cell: its thread and LSN, and the cell's content after the last STORE made under it
 pub record Version : Type 0 where

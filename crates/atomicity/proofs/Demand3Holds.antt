@@ -1,54 +1,90 @@
 -- Demand 3 holds, and every lawful order of undoing ends in the same cells.
--- The parts: `after-whole` (all concerns, for every list of steps), `undoable` (what the image of a cut has), `recovers` and `any-order` (the
+-- The parts: `run-whole` (all concerns, for every list of steps from any beginning), `undoable` (what the image of a cut has), `recovers` and `any-order` (the
 -- undoing lemma), and `before-leads` with `leads-pruned` (committed regions are closed under happens-before).
-use Prim.Native.Nat.{ℕ, suc, _≤_, _<_}
-use mathlib.Core.Path.{_≡_, refl, sym, ap, _∙_}
-use mathlib.Core.Bool.{Bool, true}
+use Prim.Native.Nat.{ℕ}
+use mathlib.Core.Path.{_≡_, sym, ap, _∙_}
+use mathlib.Core.Bool.{true}
 use mathlib.Core.List.{List}
 use lib.ListN.{length, take}
 use lib.Dec.{ltb}
 use borrow.Author.Tests.{ltb-true, lt-ltb}
+use Rattle.answer.specs.declared.Answer.the-variants.{Accepted}
+use Rattle.cache.specs.Cache.{cellCount, cacheOf}
+use Rattle.log.specs.declared.Log.{Log}
 use Rattle.machine.specs.Image.{imageOf}
-use Rattle.machine.specs.Runs.{Step}
+use Rattle.machine.specs.Runs.{Step, after}
 use Rattle.machine.specs.declared.Machine.{Machine}
-use Rattle.machine.proofs.Counts.{after-counted}
-use Rattle.recovery.specs.Undo.{Undo, storedLogs, undoStart}
-use Rattle.reference.specs.Reference.{isCommittedAt}
+use Rattle.machine.proofs.Beginnings.{machineWith, AllIdle}
+use Rattle.machine.proofs.Counts.{Counted, effect-counted, begin-counted, after-counted}
+use Rattle.machine.proofs.StepLaws.{after-keeps}
+use Rattle.recovery.specs.Recover.{recoverOf}
+use Rattle.recovery.specs.Undo.{storedLogs, undoStart}
+use Rattle.reference.specs.Reference.{emptyBook, cellsOf, isCommittedAt}
 use Rattle.atomicity.specs.AnyOrder.{AnyOrder}
 use Rattle.atomicity.specs.Demand3.{Recovers, Demand3}
 use Rattle.atomicity.specs.HappensBefore.{RegionBefore}
-use Rattle.atomicity.specs.History.{Fed, stepAt, startCells, machineAfter, historyAfter, bookAfter}
+use Rattle.atomicity.specs.History.{Fed, stepAt, historyOf, fedBook, machineAfter}
 use Rattle.atomicity.proofs.Leads.{leads-pruned}
 use Rattle.atomicity.proofs.Places.{lastOf, before-leads}
 use Rattle.atomicity.proofs.Recovered.{reads, heads-good, entries-good, final, final-length, undoable}
 use Rattle.atomicity.proofs.Undoing.{any-order, recovers}
 use Rattle.atomicity.proofs.Whole.{Whole, bookOf}
-use Rattle.atomicity.proofs.WholeRuns.{start-length, after-whole}
-use Rattle.atomicity.proofs.World.{entriesOf}
+use Rattle.atomicity.proofs.WholeRuns.{begin-whole, run-whole, start-length, after-whole}
+use Rattle.atomicity.proofs.World.{Beginning, entriesOf}
 
 -- with each committed region, every region that happens before it is committed
-closed-regions : {start : List ℕ} {machine : Machine} {history : List Fed} → Whole start machine history → (earlier later : ℕ) → RegionBefore start history earlier later → isCommittedAt (bookOf start history .regions) later ≡ true → isCommittedAt (bookOf start history .regions) earlier ≡ true
+closed-regions : {start : Beginning} {machine : Machine} {history : List Fed} → Whole start machine history → (earlier later : ℕ)
+    → RegionBefore (start .cells) history earlier later → isCommittedAt (bookOf start history .regions) later ≡ true
+    → isCommittedAt (bookOf start history .regions) earlier ≡ true
 closed-regions {start} {machine} {history} whole earlier later before isCommitted =
-    let entries = entriesOf machine (whole .ghost) in
+    let entries = entriesOf start machine (whole .ghost) in
     let first = whole .joined (before .step) earlier (before .isStep) in
     let second = whole .joined (before .laterStep) later (before .isLaterStep) in
     let leads = before-leads (whole .world .places) (before .happensBefore) in
     let head = entries .head (stepAt history (before .laterStep) .thread) in
-    let number = lastOf history (before .laterStep) in
+    let number = lastOf (entries .before) history (before .laterStep) in
     let isPruned : ltb number head ≡ true = sym (whole .regions .committed (second .0)) ∙ (ap (isCommittedAt (bookOf start history .regions)) (second .1) ∙ isCommitted) in
     let pruned = leads-pruned (whole .world .prunes) leads (ltb-true number head isPruned) in
     sym (ap (isCommittedAt (bookOf start history .regions)) (first .1)) ∙ (whole .regions .committed (first .0) ∙ lt-ltb _ _ pruned)
 
-pub cut-recovers : (words : List ℕ) (steps : List Step) (buffer : List ℕ) → length buffer ≡ 128 → Recovers words steps buffer
-cut-recovers words steps buffer isLength =
+-- where all concerns hold, recovery accepts the image of a cut and finds the reference model's cells
+whole-recovers : {start : Beginning} {machine : Machine} {history : List Fed} → Whole start machine history → Counted machine
+    → length (start .cells) ≡ cellCount → (buffer : List ℕ) → length buffer ≡ cellCount
+    → (recoverOf (imageOf machine) buffer .answer ≡ Accepted 0) × (recoverOf (imageOf machine) buffer .buffer ≡ cellsOf (bookOf start history))
+whole-recovers {start} {machine} {history} whole counted isLength buffer isBuffer =
+    recovers
+    (imageOf machine)
+    buffer
+    (final whole counted isLength)
+    (reads whole counted isLength .lengthIs)
+    isBuffer
+    (heads-good whole counted isLength)
+    (entries-good whole counted isLength)
+    (undoable whole counted isLength)
+
+-- from any beginning every list of steps recovers to the reference model's cells, with the beginning's cells as the start cells
+pub begin-recovers : (cells : List ℕ) (logs : List Log) → length cells ≡ cellCount → AllIdle logs → (steps : List Step) (buffer : List ℕ)
+    → length buffer ≡ cellCount
+    → (recoverOf (imageOf (after (machineWith cells logs) steps)) buffer .answer ≡ Accepted 0) × (recoverOf (imageOf (after (machineWith cells logs) steps)) buffer .buffer ≡ cellsOf (fedBook (emptyBook cells) (historyOf (machineWith cells logs) steps)))
+unfolding cacheOf
+begin-recovers cells logs isLength all steps buffer isBuffer =
+    whole-recovers
+    (run-whole (machineWith cells logs) (begin-whole cells logs isLength all) steps)
+    (after-keeps Counted effect-counted (machineWith cells logs) (begin-counted cells logs all) steps)
+    isLength
+    buffer
+    isBuffer
+
+-- and so it does from the start call
+pub cut-recovers : (words : List ℕ) (steps : List Step) (buffer : List ℕ) → length buffer ≡ cellCount → Recovers words steps buffer
+cut-recovers words steps buffer isBuffer =
     let whole = after-whole words steps in
     let counted = after-counted words steps in
-    let start = start-length words in
-    let found = recovers (imageOf (machineAfter words steps)) buffer (final whole counted start) (reads whole counted start .lengthIs) isLength (heads-good whole counted start) (entries-good whole counted start) (undoable whole counted start) in
+    let found = whole-recovers whole counted (start-length words) buffer isBuffer in
     record {
       accepts = found .0;
       cells = found .1;
-      all128 = final-length whole counted start;
+      all128 = final-length whole counted (start-length words);
       closed = closed-regions whole;
     }
 

@@ -5,22 +5,18 @@ use mathlib.Core.Bool.{Bool, true, false, cond}
 use mathlib.Core.List.{List, [], _∷_, _++_, append-assoc, append-nil}
 use mathlib.Core.Option.{Option, some}
 use native.Mathlib.Omega.{arith}
-use lib.ListN.{length, replicate}
 use lib.Dec.{eqb}
 use borrow.Author.Tests.{ltb-true, eqb-true, not-false}
 use Rattle.answer.specs.Answer.{isAccepted}
-use Rattle.answer.specs.declared.Answer.the-variants.{Accepted, WrongLength}
 use Rattle.answer.proofs.RefusalLaws.{AllFail}
-use Rattle.cache.specs.Cache.{cellCount}
 use Rattle.machine.specs.Effects.{loadEffect, logEffect, storeEffect, acquireEffect, logReleaseEffect, releaseEffect, flushEffect, flushLogEffect, fenceEffect, pruneEffect, evictEffect, evictLogEffect, effect}
-use Rattle.machine.specs.Holds.{threadCount, freshMachine, startOf}
+use Rattle.machine.specs.Holds.{threadCount}
 use Rattle.machine.specs.Kinds.{Kind, LOAD, LOG, STORE, ACQUIRE, LOGREL, RELEASE, FLUSH, FLUSHLOG, FENCE, PRUNE, EVICT, EVICTLOG, kindOf, fieldsOf, isOver, inputTests}
 use Rattle.machine.specs.Refusals.{stateTests}
 use Rattle.machine.specs.Runs.{Step, stepWith, after}
 use Rattle.machine.specs.declared.Machine.{Machine}
-use Rattle.machine.specs.declared.Stepped.{Stepped}
 use Rattle.machine.proofs.StepLaws.{testsOf, step-cases}
-use Rattle.atomicity.specs.History.{Fed, fedWith, historyOf, startMachine, machineAfter, historyAfter}
+use Rattle.atomicity.specs.History.{Fed, fedWith, historyOf}
 use Rattle.atomicity.proofs.Ordered.{andThen}
 
 -- document 01's number of a kind
@@ -114,17 +110,3 @@ module _ (P : Machine → List Fed → Type 0) (onRefusal : (machine : Machine) 
       (andThen history (fedWith step (isAccepted (stepWith machine step .answer))))
       (step-keeps-history machine history holds step)
       steps)
-
--- what holds at the start too
-module _ (P : Machine → List Fed → Type 0) (onStart : (cells : List ℕ) → P (freshMachine cells) []) (onRefusal : (machine : Machine) (history : List Fed) → P machine history → (next : Fed) → next .accepted ≡ false → P machine (andThen history next)) (onEffect : (machine : Machine) (history : List Fed) → P machine history → (kind : Kind) (thread place value : ℕ) → AllFail (testsOf machine kind thread place value) → P (effect machine kind thread place value .machine) (andThen history (tookStep kind thread place value))) where
-  on-start : (words : List ℕ) → P (startMachine words) []
-  unfolding startOf
-  on-start words = by-length (eqb (length words) cellCount)
-    where
-      by-length : (isLength : Bool) → P (cond {A = Stepped} isLength (record { answer = Accepted 0; machine = freshMachine words }) (record { answer = WrongLength; machine = freshMachine (replicate cellCount 0) }) .machine) []
-      by-length true = onStart words
-      by-length false = onStart (replicate cellCount 0)
-
-  -- from the start call, however long the list
-  pub start-keeps : (words : List ℕ) (steps : List Step) → P (machineAfter words steps) (historyAfter words steps)
-  start-keeps words steps = run-keeps P onRefusal onEffect (startMachine words) [] (on-start words) steps

@@ -9,13 +9,13 @@ use native.Mathlib.Omega.{arith}
 use lib.ListN.{length, getD, set, replicate}
 use lib.Seq.{getD-set-same, getD-set-other, set-out}
 use borrow.Author.Tests.{eqb-true}
-use Rattle.ring.specs.Ring.{isReleasingLock, freshTail}
-use Rattle.log.specs.Entries.{freshLog}
+use Rattle.ring.specs.Ring.{isReleasingLock}
 use Rattle.log.specs.declared.Log.{Log}
 use Rattle.ring.specs.declared.Releasing.{Releasing}
 use Rattle.ring.specs.declared.Releasing.the-variants.{Nothing, Lock as ReleasingLock}
 use Rattle.machine.specs.Clocks.{clockAt, joinOf, raisedOf}
 use Rattle.machine.specs.Holds.{threadCount, lockCount, noLog, noLock, noClock, isHeld, isHeldBy}
+use Rattle.machine.proofs.Beginnings.{AllIdle, releases-nothing}
 use Rattle.machine.specs.declared.Clock.{Clock}
 use Rattle.machine.specs.declared.Holder.{Holder}
 use Rattle.machine.specs.declared.Holder.the-variants.{Nobody, Thread}
@@ -37,10 +37,10 @@ pub record Held (logs : List Log) (locks : List Lock) (clocks lockClocks : List 
   pub releasesHeld : (thread lock : ℕ) → releasingOf logs thread ≡ ReleasingLock lock → holderOf locks lock ≡ Thread thread
 
 -- two variants are not one
-nobody-holds : {A : Type 0} {holder : Holder} {thread : ℕ} → holder ≡ Nobody → holder ≡ Thread thread → A
+pub nobody-holds : {A : Type 0} {holder : Holder} {thread : ℕ} → holder ≡ Nobody → holder ≡ Thread thread → A
 nobody-holds isNobody isThread = let never : _≡_ {A = ℕ} 0 1 = cc in absurd (omega arith)
 
-nothing-released : {A : Type 0} {releasing : Releasing} {lock : ℕ} → releasing ≡ Nothing → releasing ≡ ReleasingLock lock → A
+pub nothing-released : {A : Type 0} {releasing : Releasing} {lock : ℕ} → releasing ≡ Nothing → releasing ≡ ReleasingLock lock → A
 nothing-released isNothing isLock = let never : _≡_ {A = ℕ} 0 1 = cc in absurd (omega arith)
 
 not-held : (holder : Holder) → isHeld holder ≡ false → holder ≡ Nobody
@@ -56,12 +56,11 @@ pub held-by : (holder : Holder) (thread : ℕ) → isHeldBy holder thread ≡ tr
 held-by Nobody thread isHeld = absurd (false≢true isHeld)
 held-by (Thread holder) thread isHeld = ap Thread (eqb-true holder thread isHeld)
 
--- nothing is held at the start
-pub held-start : (clocks lockClocks : List Clock) → Held (replicate threadCount freshLog) (replicate lockCount noLock) clocks lockClocks
-unfolding freshLog freshTail
-held-start clocks lockClocks = record {
+-- at a beginning nothing is held
+pub begin-held : (logs : List Log) → AllIdle logs → (clocks lockClocks : List Clock) → Held logs (replicate lockCount noLock) clocks lockClocks
+begin-held logs all clocks lockClocks = record {
   knowsLock = λ lock thread isHolder. nobody-holds (replicate-cases (λ free. free .holder ≡ Nobody) lockCount lock noLock noLock refl refl) isHolder;
-  releasesHeld = λ thread lock isReleasing. nothing-released (replicate-cases (λ log. log .tail .releasing ≡ Nothing) threadCount thread freshLog noLog refl refl) isReleasing;
+  releasesHeld = λ thread lock isReleasing. nothing-released (releases-nothing logs all thread) isReleasing;
 }
 
 module _ (logs : List Log) (locks : List Lock) (clocks lockClocks : List Clock) (held : Held logs locks clocks lockClocks) where

@@ -1,11 +1,11 @@
 -- The order on entries: earlier in the same log, or a RELEASE of a lock before an ACQUIRE of it with a larger count, and what follows.
 -- What leads to a pruned entry is pruned; what leaves a thread does so by a RELEASE of that thread.
-use Prim.Native.Nat.{ℕ, suc, _≤_, _<_}
+use Prim.Native.Nat.{ℕ, _≤_, _<_}
 use native.Mathlib.Omega.{arith}
-use mathlib.Core.Path.{_≡_, refl, sym, ap, _∙_, subst}
+use mathlib.Core.Path.{_≡_, refl, _∙_}
 use mathlib.Core.Logic.{_⊎_, inl, inr, ⊎-elim}
-use Rattle.atomicity.proofs.Logged.{Entries, Made, Is, IsReleaseOf, IsAcquireOf, Grows, still-is}
-use Rattle.atomicity.proofs.Locks.{Locks, LocksHold, PrunesHold, pruned-before}
+use Rattle.atomicity.proofs.Logged.{Entries, IsReleaseOf, IsAcquireOf, Grows, still-is}
+use Rattle.atomicity.proofs.Locks.{Locks, PrunesHold, pruned-before}
 
 -- a point is a thread and an LSN of it, 0 before its first entry
 pub data Leads (entries : Entries) : ℕ → ℕ → ℕ → ℕ → Type 0 where

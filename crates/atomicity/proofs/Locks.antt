@@ -4,16 +4,16 @@
 use Prim.Native.Nat.{ℕ, suc, _+_, _-_, _≤_, _<_}
 use native.Mathlib.Decide.{decLt, ℕ-discrete}
 use native.Mathlib.Omega.{arith}
-use mathlib.Core.Path.{_≡_, refl, sym, ap, _∙_, subst}
+use mathlib.Core.Path.{_≡_, sym, ap, _∙_, subst}
 use mathlib.Core.Logic.{_⊎_, inl, inr, ⊎-elim, by-cases}
 use Rattle.log.specs.Entries.{syncCount}
 use Rattle.log.specs.declared.Event.{Event}
-use Rattle.log.specs.declared.Event.the-variants.{Empty, Store, Acquire, Release}
+use Rattle.log.specs.declared.Event.the-variants.{Acquire, Release}
 use Rattle.ring.specs.declared.Releasing.{Releasing}
 use Rattle.ring.specs.declared.Releasing.the-variants.{Nothing, Lock}
 use Rattle.machine.specs.declared.Holder.{Holder}
 use Rattle.machine.specs.declared.Holder.the-variants.{Nobody, Thread}
-use Rattle.atomicity.proofs.Logged.{Entries, Made, Is, IsReleaseOf, IsAcquireOf, Grows, Keeps, Appends, still-is, was, kept-is, made-cases, new-is, is-cases}
+use Rattle.atomicity.proofs.Logged.{Entries, Made, IsReleaseOf, IsAcquireOf, Keeps, Appends, still-is, was, kept-is, new-is, is-cases}
 
 -- which lock each thread is releasing; each lock's holder, count, and pruned RELEASEs
 pub record Locks : Type 0 where

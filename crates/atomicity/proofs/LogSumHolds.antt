@@ -5,29 +5,30 @@ use mathlib.Core.Bool.{Bool, true, false, cond, _&&_, _||_, true≢false}
 use mathlib.Core.List.{List, [], _∷_, map}
 use native.Mathlib.Omega.{arith}
 use lib.Dec.{eqb}
-use lib.ListN.{length, getD, set, replicate}
+use lib.ListN.{length, getD, set}
 use borrow.Author.Tests.{eqb-false}
 use Rattle.answer.specs.Answer.{isAccepted, valueOf}
 use Rattle.answer.specs.declared.Answer.{Answer}
 use Rattle.answer.specs.declared.Answer.the-variants.{Accepted, NoSuchKind, NoSuchThread, NoSuchPlace, UnusedField, LogFull, LsnsUsedUp, Releasing, Race, AlreadyLogged, NotLogged, EntryNotDurable, LockHeld, LockNotHeld, NotReleasing, NothingToPrune, EarlierReleaseNotPruned, CellNotDurable, NoLiveEntry, Unreadable, WrongLength, BadHead, BadEntry, Cyclic}
 use Rattle.answer.proofs.RefusalLaws.{AllFail}
-use Rattle.cache.specs.Cache.{cellCount, cachedAt}
-use Rattle.log.specs.Entries.{liveCount, liveEvent, freshLog, appendOf, flushLogOf, endReleaseOf, fenceLogOf, evictSlotOf, pruneOf}
+use Rattle.cache.specs.Cache.{cachedAt}
+use Rattle.log.specs.Entries.{liveCount, liveEvent, appendOf, flushLogOf, endReleaseOf, fenceLogOf, evictSlotOf, pruneOf}
 use Rattle.log.specs.declared.Event.the-variants.{Store, Acquire, Release}
 use Rattle.log.specs.Regions.{isAcquire, isRelease, goesOn, oldestRegion}
-use Rattle.ring.specs.Ring.{freshTail, grownTail, flushedTail, fencedTail, releasedTail}
+use Rattle.ring.specs.Ring.{grownTail, flushedTail, fencedTail, releasedTail}
 use Rattle.log.specs.declared.Log.{Log}
 use Rattle.machine.specs.Effects.{loadEffect, logEffect, storeEffect, acquireEffect, logReleaseEffect, releaseEffect, flushEffect, flushLogEffect, fenceEffect, pruneEffect, evictEffect, evictLogEffect, effect}
-use Rattle.machine.specs.Holds.{threadCount, noLog, logOf, lockOf, freshMachine, startOf}
+use Rattle.machine.specs.Holds.{threadCount, noLog, logOf, lockOf}
 use Rattle.machine.specs.Kinds.{Kind, LOAD, LOG, STORE, ACQUIRE, LOGREL, RELEASE, FLUSH, FLUSHLOG, FENCE, PRUNE, EVICT, EVICTLOG}
 use Rattle.machine.specs.Runs.{Step, stepWith, after}
 use Rattle.machine.specs.declared.Machine.{Machine}
 use Rattle.machine.specs.declared.Stepped.{Stepped}
-use Rattle.machine.proofs.Sizes.{Sized, effect-sized, fresh-sized}
+use Rattle.machine.proofs.Beginnings.{machineWith, AllIdle, each-log, freshLogs, fresh-all, on-start}
+use Rattle.machine.proofs.Sizes.{Sized, effect-sized, begin-sized}
 use Rattle.machine.proofs.StepLaws.{testsOf, step-cases}
 use Rattle.atomicity.specs.LogSum.{sum, freedBy, appendedBy, liveIn, LogSum}
 use Rattle.atomicity.proofs.HistoryRuns.{kindNumber, kind-number, thread-in-range}
-use Rattle.answer.proofs.ListCases.{set-cases, replicate-cases}
+use Rattle.answer.proofs.ListCases.{set-cases}
 use Rattle.atomicity.proofs.WorldPrune.{prune-logs}
 
 -- one element changed: the old one's number goes, the new one's comes
@@ -38,6 +39,13 @@ sum-set number (first ∷ list) zero value default inRange = omega arith
 sum-set number (first ∷ list) (suc place) value default inRange =
     let rest = sum-set number list place value default (omega arith) in
     omega arith
+
+-- numbers that are all 0
+sum-none : {A : Type 0} (number : A → ℕ) (list : List A) (default : A) → ((place : ℕ) → number (getD list place default) ≡ 0) → sum (map number list) ≡ 0
+unfolding sum
+sum-none number [] default none = refl
+sum-none number (first ∷ list) default none =
+    omega (arith, none 0, sum-none number list default (λ place. none (suc place)))
 
 -- of so many entries at most as many go on a region
 goes-most : (log : Log) (index count : ℕ) → goesOn log index count ≤ count
@@ -185,29 +193,26 @@ run-balanced machine headed (step ∷ steps) =
     let later = run-balanced (stepWith machine step .machine) (now .headed) steps in
     omega arith
 
-fresh-headed : (cells : List ℕ) → Headed (freshMachine cells)
-unfolding freshMachine freshLog freshTail
-fresh-headed cells = record {
-  sized = fresh-sized cells;
-  headNext = λ thread. replicate-cases (λ log. log .head .0 ≤ log .tail .next .0) threadCount thread freshLog noLog (omega arith) (omega arith);
+-- at a beginning no entry is live
+begin-headed : (cells : List ℕ) (logs : List Log) → AllIdle logs → Headed (machineWith cells logs)
+begin-headed cells logs all = record {
+  sized = begin-sized cells logs all;
+  headNext = each-log logs all (λ log. log .head .0 ≤ log .tail .next .0) (λ log is. omega (arith, is .nextIs)) (omega arith);
 }
 
--- no entry is live at the start
-fresh-live : (cells : List ℕ) → liveIn (freshMachine cells) ≡ 0
-unfolding freshMachine freshLog freshTail sum
-fresh-live cells = refl
+begin-live : (cells : List ℕ) (logs : List Log) → AllIdle logs → liveIn (machineWith cells logs) ≡ 0
+begin-live cells logs all =
+    let none = each-log logs all (λ log. liveCount log ≡ 0) (λ log is. omega (arith, is .nextIs)) refl in
+    sum-none liveCount logs noLog none
 
--- from the start call, whether it accepts its words or not
+-- so from every beginning, and from the start call, whether it accepts its words or not
+begin-sum : (cells : List ℕ) (logs : List Log) → AllIdle logs → (steps : List Step) → freedBy (machineWith cells logs) steps + liveIn (after (machineWith cells logs) steps) ≡ appendedBy (machineWith cells logs) steps
+begin-sum cells logs all steps =
+    omega (arith, run-balanced (machineWith cells logs) (begin-headed cells logs all) steps, begin-live cells logs all)
+
 pub log-sum : LogSum
-unfolding startOf
-log-sum words steps = by-length (eqb (length words) cellCount)
-  where
-    from-fresh : (cells : List ℕ) → freedBy (freshMachine cells) steps + liveIn (after (freshMachine cells) steps) ≡ appendedBy (freshMachine cells) steps
-    from-fresh cells = omega (arith, run-balanced (freshMachine cells) (fresh-headed cells) steps, fresh-live cells)
-
-    startsAt : Bool → Machine
-    startsAt isLength = cond {A = Stepped} isLength (record { answer = Accepted 0; machine = freshMachine words }) (record { answer = WrongLength; machine = freshMachine (replicate cellCount 0) }) .machine
-
-    by-length : (isLength : Bool) → freedBy (startsAt isLength) steps + liveIn (after (startsAt isLength) steps) ≡ appendedBy (startsAt isLength) steps
-    by-length true = from-fresh words
-    by-length false = from-fresh (replicate cellCount 0)
+log-sum words steps =
+    on-start
+    (λ machine. freedBy machine steps + liveIn (after machine steps) ≡ appendedBy machine steps)
+    (λ cells isLength. begin-sum cells freshLogs fresh-all steps)
+    words

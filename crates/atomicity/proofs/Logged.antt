@@ -3,24 +3,25 @@
 use Prim.Native.Nat.{ℕ, suc, _≤_, _<_}
 use native.Mathlib.Decide.{decLt, ℕ-discrete}
 use native.Mathlib.Omega.{arith}
-use mathlib.Core.Path.{_≡_, refl, sym, ap, _∙_, subst}
+use mathlib.Core.Path.{_≡_, sym, ap, _∙_}
 use mathlib.Core.Logic.{_⊎_, inl, inr, ⊎-elim, by-cases}
 use Rattle.log.specs.Entries.{syncCount}
 use Rattle.log.specs.declared.Event.{Event}
-use Rattle.log.specs.declared.Event.the-variants.{Empty, Store, Acquire, Release}
+use Rattle.log.specs.declared.Event.the-variants.{Acquire, Release}
 
--- the entries: what each says and the place of its step in the history, by thread and LSN; the next LSN, the head and the last durable LSN
--- of each thread
+-- the entries: what each says and the place of its step in the history, by thread and LSN; the last LSN given before the history began, the
+-- next LSN, the head and the last durable LSN of each thread
 pub record Entries : Type 0 where
   pub event : ℕ → ℕ → Event
   pub time : ℕ → ℕ → ℕ
+  pub before : ℕ → ℕ
   pub next : ℕ → ℕ
   pub head : ℕ → ℕ
   pub durable : ℕ → ℕ
 
 -- the thread made an entry of this LSN
 pub record Made (entries : Entries) (thread number : ℕ) : Type 0 where
-  pub positive : 1 ≤ number
+  pub since : entries .before thread < number
   pub below : number < entries .next thread
 
 -- the entry is this
@@ -40,6 +41,7 @@ pub record Grows (old new : Entries) (now : ℕ) : Type 0 where
   pub still : (thread number : ℕ) → Made old thread number → Made new thread number
   pub saysSame : (thread number : ℕ) → Made old thread number → new .event thread number ≡ old .event thread number
   pub timeSame : (thread number : ℕ) → Made old thread number → new .time thread number ≡ old .time thread number
+  pub beforeSame : new .before ≡ old .before
   pub headGrows : (thread : ℕ) → old .head thread ≤ new .head thread
   pub durableGrows : (thread : ℕ) → old .durable thread ≤ new .durable thread
 
@@ -55,7 +57,7 @@ pub record Appends (old new : Entries) (now thread : ℕ) (event : Event) : Type
   pub nextOther : (other : ℕ) → (other ≡ thread → ⊥) → new .next other ≡ old .next other
   pub saysNew : new .event thread (old .next thread) ≡ event
   pub timeNew : new .time thread (old .next thread) ≡ now
-  pub nextPositive : 1 ≤ old .next thread
+  pub nextSince : old .before thread < old .next thread
   pub headSame : (other : ℕ) → new .head other ≡ old .head other
   pub durableSame : (other : ℕ) → new .durable other ≡ old .durable other
 
@@ -77,7 +79,7 @@ module _ {old new : Entries} {now : ℕ} (grows : Grows old new now) where
 module _ {old new : Entries} {now : ℕ} (keeps : Keeps old new now) where
   pub made-kept : {thread number : ℕ} → Made new thread number → Made old thread number
   made-kept {thread} {number} made = record {
-    positive = made .positive;
+    since = rw (keeps .grows .beforeSame) at (made .since);
     below = rw (keeps .nextSame thread) at (made .below);
   }
 
@@ -94,14 +96,14 @@ module _ {old new : Entries} {now thread : ℕ} {event : Event} (appends : Appen
       (λ same.
       by-cases
       (decLt number (old .next thread))
-      (λ before. inl (record { positive = made .positive; below = rw (← same) at before }))
+      (λ before. inl (record { since = rw (appends .grows .beforeSame) at (made .since); below = rw (← same) at before }))
       (λ notBefore.
       let under : number < suc (old .next thread) = rw (appends .nextMore) at (rw same at (made .below)) in
       inr (same, omega (arith, notBefore))))
-      (λ differs. inl (record { positive = made .positive; below = rw (appends .nextOther other differs) at (made .below) }))
+      (λ differs. inl (record { since = rw (appends .grows .beforeSame) at (made .since); below = rw (appends .nextOther other differs) at (made .below) }))
 
   pub new-made : Made new thread (old .next thread)
-  new-made = record { positive = appends .nextPositive; below = omega (arith, appends .nextMore) }
+  new-made = record { since = rw (appends .grows .beforeSame) (appends .nextSince); below = omega (arith, appends .nextMore) }
 
   pub new-is : Is new thread (old .next thread) event
   new-is = record { made = new-made; says = appends .saysNew }

@@ -1,10 +1,10 @@
 -- What undoing needs of a cell: its oldest live version has the content that the pruned versions left, and leads to the other live ones;
 -- where no live version is durable, the persisted content is that content already.
-use Prim.Native.Nat.{ℕ, suc, _≤_, _<_}
+use Prim.Native.Nat.{ℕ, _≤_, _<_}
 use native.Mathlib.Decide.{decLt}
 use native.Mathlib.Omega.{arith}
-use mathlib.Core.Path.{_≡_, refl, sym, ap, _∙_, subst}
-use mathlib.Core.Bool.{Bool, true, false, cond}
+use mathlib.Core.Path.{_≡_, refl, sym, _∙_, subst}
+use mathlib.Core.Bool.{cond}
 use mathlib.Core.List.{List, [], _∷_}
 use mathlib.Core.Logic.{_⊎_, inl, inr, ⊎-elim, by-cases}
 use lib.Dec.{ltb}
@@ -13,7 +13,7 @@ use Rattle.log.specs.declared.Event.the-variants.{Store}
 use Rattle.atomicity.proofs.Logged.{Entries, Made, Is}
 use Rattle.atomicity.proofs.Locks.{Locks, LocksHold, PrunesHold, durable-before}
 use Rattle.atomicity.proofs.Leads.{Leads, inThread, byLock, through, leads-pruned}
-use Rattle.atomicity.proofs.Cells.{Version, latest, NewestLeads, none-older, leads-to, Link, Chain, unlogged, linked, In, here, there, NoneDurable, Contents, CellsHold}
+use Rattle.atomicity.proofs.Cells.{Version, latest, NewestLeads, leads-to, Link, Chain, unlogged, linked, In, here, there, NoneDurable, Contents, CellsHold}
 
 -- the content that the newest pruned version left, or the start cell
 abbrev pub prunedValue : Entries → ℕ → List Version → ℕ

@@ -7,14 +7,12 @@ use mathlib.Core.Path.{_≡_, refl, sym, ap, _∙_, subst}
 use mathlib.Core.Bool.{Bool, true, false, cond, _&&_, _||_}
 use mathlib.Core.List.{List, [], _∷_, _++_}
 use mathlib.Core.Logic.{_⊎_, inl, inr, ⊎-elim, by-cases}
-use lib.ListN.{length, getD, length-append, List·getD-append, List·getD-eq-default}
+use lib.ListN.{length, length-append, List·getD-append, List·getD-eq-default}
 use lib.Seq.{getD-append-seam}
 use lib.Dec.{eqb}
-use Rattle.log.specs.declared.Event.{Event}
-use Rattle.log.specs.declared.Event.the-variants.{Store}
 use Rattle.atomicity.specs.History.{Fed, noStep, stepAt}
 use Rattle.atomicity.specs.HappensBefore.{Accepted, HappensBefore, inThread, byLock, through}
-use Rattle.atomicity.proofs.Logged.{Entries, Made, Is, IsReleaseOf, IsAcquireOf, Grows, still-is}
+use Rattle.atomicity.proofs.Logged.{Entries, IsReleaseOf, IsAcquireOf, Grows, still-is}
 use Rattle.atomicity.proofs.Leads as Order
 use Rattle.atomicity.proofs.Leads.{Leads, leads-grow}
 
@@ -22,25 +20,25 @@ use Rattle.atomicity.proofs.Leads.{Leads, leads-grow}
 abbrev pub makes : Fed → ℕ → Bool
 makes fed thread = fed .accepted && (eqb (fed .thread) thread && (eqb (fed .kind) 2 || (eqb (fed .kind) 4 || eqb (fed .kind) 5)))
 
--- how many entries the thread made by the steps at the first so many places
-unfoldable pub madeBy : List Fed → ℕ → ℕ → ℕ
-madeBy history thread zero = 0
-madeBy history thread (suc count) = cond (makes (stepAt history count) thread) 1 0 + madeBy history thread count
+-- the last LSN of the thread after the steps at the first so many places, where this one was its last before them
+unfoldable pub madeBy : (ℕ → ℕ) → List Fed → ℕ → ℕ → ℕ
+madeBy given history thread zero = given thread
+madeBy given history thread (suc count) = cond (makes (stepAt history count) thread) 1 0 + madeBy given history thread count
 
 -- the last LSN of a step's thread after it
-abbrev pub lastOf : List Fed → ℕ → ℕ
-lastOf history place = madeBy history (stepAt history place .thread) (suc place)
+abbrev pub lastOf : (ℕ → ℕ) → List Fed → ℕ → ℕ
+lastOf given history place = madeBy given history (stepAt history place .thread) (suc place)
 
 -- a thread's last LSN only grows
-pub made-grows : (history : List Fed) (thread first second : ℕ) → first ≤ second → madeBy history thread first ≤ madeBy history thread second
+pub made-grows : (given : ℕ → ℕ) (history : List Fed) (thread first second : ℕ) → first ≤ second → madeBy given history thread first ≤ madeBy given history thread second
 unfolding madeBy
-made-grows history thread first zero before = let none : first ≡ 0 = omega arith in rw none (omega arith)
-made-grows history thread first (suc second) before =
+made-grows given history thread first zero before = let none : first ≡ 0 = omega arith in rw none (omega arith)
+made-grows given history thread first (suc second) before =
     by-cases
     (ℕ-discrete first (suc second))
     (λ same. rw same (omega arith))
     (λ differs.
-    let less = made-grows history thread first second (omega (arith, differs)) in
+    let less = made-grows given history thread first second (omega (arith, differs)) in
     omega arith)
 
 module _ (history : List Fed) (fed : Fed) where
@@ -57,36 +55,41 @@ module _ (history : List Fed) (fed : Fed) where
   pub step-new : stepAt thenFed (length history) ≡ fed
   step-new = getD-append-seam history fed [] noStep
 
-  pub made-before : (thread count : ℕ) → count ≤ length history → madeBy thenFed thread count ≡ madeBy history thread count
+  pub made-before : (given : ℕ → ℕ) (thread count : ℕ) → count ≤ length history → madeBy given thenFed thread count ≡ madeBy given history thread count
   unfolding madeBy
-  made-before thread zero within = refl
-  made-before thread (suc count) within =
-      rw (step-before {place = count} (omega arith), made-before thread count (omega arith))
+  made-before given thread zero within = refl
+  made-before given thread (suc count) within =
+      rw (step-before {place = count} (omega arith), made-before given thread count (omega arith))
 
-  pub made-new : (thread : ℕ) → madeBy thenFed thread (suc (length history)) ≡ cond (makes fed thread) 1 0 + madeBy history thread (length history)
+  pub made-new : (given : ℕ → ℕ) (thread : ℕ) → madeBy given thenFed thread (suc (length history)) ≡ cond (makes fed thread) 1 0 + madeBy given history thread (length history)
   unfolding madeBy
-  made-new thread = rw (step-new, made-before thread (length history) (omega arith))
+  made-new given thread = rw (step-new, made-before given thread (length history) (omega arith))
 
-  pub last-before : {place : ℕ} → place < length history → lastOf thenFed place ≡ lastOf history place
-  last-before {place} before =
-      ap (λ (step : Fed). madeBy thenFed (step .thread) (suc place)) (step-before before) ∙ made-before (stepAt history place .thread) (suc place) before
+  pub last-before : (given : ℕ → ℕ) {place : ℕ} → place < length history → lastOf given thenFed place ≡ lastOf given history place
+  last-before given {place} before =
+      ap (λ (step : Fed). madeBy given thenFed (step .thread) (suc place)) (step-before before) ∙ made-before given (stepAt history place .thread) (suc place) before
+
+-- so it is, where entries grew
+pub last-was : {old new : Entries} (history : List Fed) (fed : Fed) → Grows old new (length history) → {place : ℕ} → place < length history → lastOf (new .before) (thenFed history fed) place ≡ lastOf (old .before) history place
+last-was {old} history fed grows {place} before =
+    ap (λ (given : ℕ → ℕ). lastOf given (thenFed history fed) place) (grows .beforeSame) ∙ last-before history fed (old .before) before
 
 -- the history's steps and the entries
 pub record PlacesHold (history : List Fed) (entries : Entries) (counts : ℕ → ℕ) : Type 0 where
   pub threadIs : (place : ℕ) → stepAt history place .accepted ≡ true → stepAt history place .thread < 4
-  pub nextIs : (thread : ℕ) → thread < 4 → entries .next thread ≡ suc (madeBy history thread (length history))
+  pub nextIs : (thread : ℕ) → thread < 4 → entries .next thread ≡ suc (madeBy (entries .before) history thread (length history))
   -- a RELEASE step stands at its RELEASE entry, of a count that the lock has passed
-  pub releaseAt : {place : ℕ} → Accepted history place 6 → (count : ℕ) × IsReleaseOf entries (stepAt history place .thread) (lastOf history place) (stepAt history place .place) count × (count < counts (stepAt history place .place))
+  pub releaseAt : {place : ℕ} → Accepted history place 6 → (count : ℕ) × IsReleaseOf entries (stepAt history place .thread) (lastOf (entries .before) history place) (stepAt history place .place) count × (count < counts (stepAt history place .place))
   -- each RELEASE step leads to each later ACQUIRE step of the lock
-  pub lockLeads : {first second : ℕ} → first < second → Accepted history first 6 → Accepted history second 4 → stepAt history first .place ≡ stepAt history second .place → Leads entries (stepAt history first .thread) (lastOf history first) (stepAt history second .thread) (lastOf history second)
+  pub lockLeads : {first second : ℕ} → first < second → Accepted history first 6 → Accepted history second 4 → stepAt history first .place ≡ stepAt history second .place → Leads entries (stepAt history first .thread) (lastOf (entries .before) history first) (stepAt history second .thread) (lastOf (entries .before) history second)
 
 -- what happens before leads
-pub before-leads : {history : List Fed} {entries : Entries} {counts : ℕ → ℕ} {first second : ℕ} → PlacesHold history entries counts → HappensBefore history first second → Leads entries (stepAt history first .thread) (lastOf history first) (stepAt history second .thread) (lastOf history second)
+pub before-leads : {history : List Fed} {entries : Entries} {counts : ℕ → ℕ} {first second : ℕ} → PlacesHold history entries counts → HappensBefore history first second → Leads entries (stepAt history first .thread) (lastOf (entries .before) history first) (stepAt history second .thread) (lastOf (entries .before) history second)
 before-leads {history} {entries} {counts} {first} {second} holds (inThread before isFirst isSecond same) =
     subst
-    (λ (thread : ℕ). Leads entries (stepAt history first .thread) (lastOf history first) thread (madeBy history thread (suc second)))
+    (λ (thread : ℕ). Leads entries (stepAt history first .thread) (lastOf (entries .before) history first) thread (madeBy (entries .before) history thread (suc second)))
     same
-    (Order.inThread (made-grows history (stepAt history first .thread) (suc first) (suc second) (omega arith)))
+    (Order.inThread (made-grows (entries .before) history (stepAt history first .thread) (suc first) (suc second) (omega arith)))
 before-leads holds (byLock before isFirst isSecond same) = holds .lockLeads before isFirst isSecond same
 before-leads holds (through first second) = Order.through (before-leads holds first) (before-leads holds second)
 
@@ -96,8 +99,8 @@ pub record NewPlace (history : List Fed) (fed : Fed) (old new : Entries) (counts
   pub thread : fed .accepted ≡ true → fed .thread < 4
   pub nextNew : (thread : ℕ) → thread < 4 → new .next thread ≡ cond (makes fed thread) 1 0 + old .next thread
   pub countGrows : (lock : ℕ) → counts lock ≤ after lock
-  pub newRelease : fed .accepted ≡ true → fed .kind ≡ 6 → (count : ℕ) × IsReleaseOf new (fed .thread) (madeBy (thenFed history fed) (fed .thread) (suc (length history))) (fed .place) count × (count < after (fed .place))
-  pub newAcquire : fed .accepted ≡ true → fed .kind ≡ 4 → IsAcquireOf new (fed .thread) (madeBy (thenFed history fed) (fed .thread) (suc (length history))) (fed .place) (counts (fed .place))
+  pub newRelease : fed .accepted ≡ true → fed .kind ≡ 6 → (count : ℕ) × IsReleaseOf new (fed .thread) (madeBy (new .before) (thenFed history fed) (fed .thread) (suc (length history))) (fed .place) count × (count < after (fed .place))
+  pub newAcquire : fed .accepted ≡ true → fed .kind ≡ 4 → IsAcquireOf new (fed .thread) (madeBy (new .before) (thenFed history fed) (fed .thread) (suc (length history))) (fed .place) (counts (fed .place))
 
 module _ {history : List Fed} {fed : Fed} {old new : Entries} {counts after : ℕ → ℕ} (step : NewPlace history fed old new counts after) (holds : PlacesHold history old counts) where
   -- an accepted step stands in the history, or is the new one
@@ -129,10 +132,10 @@ module _ {history : List Fed} {fed : Fed} {old new : Entries} {counts after : �
       (sym (ap (λ (step : Fed). step .accepted) here) ∙ isAccepted .isAccepted, sym (ap (λ (step : Fed). step .kind) here) ∙ isAccepted .isKind)
 
   -- a RELEASE step of the history, read in the longer one
-  release-before : {place : ℕ} (before : place < length history) → Accepted (thenFed history fed) place 6 → (count : ℕ) × IsReleaseOf new (stepAt (thenFed history fed) place .thread) (lastOf (thenFed history fed) place) (stepAt (thenFed history fed) place .place) count × (count < counts (stepAt (thenFed history fed) place .place))
+  release-before : {place : ℕ} (before : place < length history) → Accepted (thenFed history fed) place 6 → (count : ℕ) × IsReleaseOf new (stepAt (thenFed history fed) place .thread) (lastOf (new .before) (thenFed history fed) place) (stepAt (thenFed history fed) place .place) count × (count < counts (stepAt (thenFed history fed) place .place))
   release-before {place} before isAccepted =
       let found = holds .releaseAt (accepted-before before isAccepted) in
-      rw (last-before history fed before, step-before history fed before) (found .0, still-is (step .grows) (found .1), found .2)
+      rw (last-was history fed (step .grows) before, step-before history fed before) (found .0, still-is (step .grows) (found .1), found .2)
 
   pub places-step : PlacesHold (thenFed history fed) new after
   places-step = record {
@@ -144,7 +147,7 @@ module _ {history : List Fed} {fed : Fed} {old new : Entries} {counts after : �
         rw here (step .thread (sym (ap (λ (step : Fed). step .accepted) here) ∙ isAccepted)))
         (place-cases place isAccepted);
     nextIs = λ thread inRange.
-        rw (length-then history fed, made-new history fed thread)
+        rw (length-then history fed, step .grows .beforeSame, made-new history fed (old .before) thread)
         (let was = holds .nextIs thread inRange in
         let now = step .nextNew thread inRange in
         omega arith);
@@ -163,7 +166,7 @@ module _ {history : List Fed} {fed : Fed} {old new : Entries} {counts after : �
         ⊎-elim
         (λ (secondBefore : second < length history).
         let firstBefore : first < length history = omega arith in
-        rw (last-before history fed firstBefore, last-before history fed secondBefore, step-before history fed firstBefore, step-before history fed secondBefore)
+        rw (last-was history fed (step .grows) firstBefore, last-was history fed (step .grows) secondBefore, step-before history fed firstBefore, step-before history fed secondBefore)
         (leads-grow (step .grows)
         (holds .lockLeads
         before
@@ -175,9 +178,9 @@ module _ {history : List Fed} {fed : Fed} {old new : Entries} {counts after : �
         let firstBefore : first < length history = omega arith in
         let found = release-before firstBefore isRelease in
         let here : stepAt (thenFed history fed) second ≡ fed = ap (stepAt (thenFed history fed)) same ∙ step-new history fed in
-        let acquire : IsAcquireOf new (stepAt (thenFed history fed) second .thread) (lastOf (thenFed history fed) second) (stepAt (thenFed history fed) second .place) (counts (stepAt (thenFed history fed) second .place)) =
+        let acquire : IsAcquireOf new (stepAt (thenFed history fed) second .thread) (lastOf (new .before) (thenFed history fed) second) (stepAt (thenFed history fed) second .place) (counts (stepAt (thenFed history fed) second .place)) =
         rw (same, step-new history fed) (step .newAcquire (isNew .0) (isNew .1)) in
-        let release : IsReleaseOf new (stepAt (thenFed history fed) first .thread) (lastOf (thenFed history fed) first) (stepAt (thenFed history fed) second .place) (found .0) = subst (λ (lock : ℕ). IsReleaseOf new (stepAt (thenFed history fed) first .thread) (lastOf (thenFed history fed) first) lock (found .0)) samePlace (found .1) in
+        let release : IsReleaseOf new (stepAt (thenFed history fed) first .thread) (lastOf (new .before) (thenFed history fed) first) (stepAt (thenFed history fed) second .place) (found .0) = subst (λ (lock : ℕ). IsReleaseOf new (stepAt (thenFed history fed) first .thread) (lastOf (new .before) (thenFed history fed) first) lock (found .0)) samePlace (found .1) in
         Order.byLock release acquire (rw samePlace at (found .2)))
         (place-cases second (isAcquire .isAccepted));
   }

@@ -45,45 +45,45 @@ count-more one other (suc count) extra under fails passes agree =
     rw (agree count (omega arith) (λ equal. differs (sym equal))) (omega arith))
 
 -- the step at the place is an accepted LOGREL of the lock, and its entry is below its thread's head
-abbrev pub prunedTest : (ℕ → ℕ) → List Fed → ℕ → ℕ → Bool
-prunedTest heads history lock place = ifReleases (stepAt history place) lock (ltb (lastOf history place) (heads (stepAt history place .thread)))
+abbrev pub prunedTest : (ℕ → ℕ) → (ℕ → ℕ) → List Fed → ℕ → ℕ → Bool
+prunedTest given heads history lock place = ifReleases (stepAt history place) lock (ltb (lastOf given history place) (heads (stepAt history place .thread)))
 
 -- each lock's number is how many such steps there are
-pub record Counted (heads : ℕ → ℕ) (history : List Fed) (pruned : ℕ → ℕ) : Type 0 where
-  pub number : (lock : ℕ) → pruned lock ≡ countBelow (prunedTest heads history lock) (length history)
+pub record Counted (given heads : ℕ → ℕ) (history : List Fed) (pruned : ℕ → ℕ) : Type 0 where
+  pub number : (lock : ℕ) → pruned lock ≡ countBelow (prunedTest given heads history lock) (length history)
 
 -- the same heads, and the same numbers
-pub counted-same : {heads after : ℕ → ℕ} {history : List Fed} {pruned now : ℕ → ℕ} → ((thread : ℕ) → after thread ≡ heads thread) → ((lock : ℕ) → now lock ≡ pruned lock) → Counted heads history pruned → Counted after history now
-counted-same {heads} {after} {history} same sameNumber counted = record {
+pub counted-same : {given heads after : ℕ → ℕ} {history : List Fed} {pruned now : ℕ → ℕ} → ((thread : ℕ) → after thread ≡ heads thread) → ((lock : ℕ) → now lock ≡ pruned lock) → Counted given heads history pruned → Counted given after history now
+counted-same {given} {heads} {after} {history} same sameNumber counted = record {
   number = λ lock.
       sameNumber lock ∙
       (counted .number lock ∙
       count-same
-      (prunedTest heads history lock)
-      (prunedTest after history lock)
+      (prunedTest given heads history lock)
+      (prunedTest given after history lock)
       (length history)
       (λ place under. rw (same (stepAt history place .thread))));
 }
 
 -- a step more whose entry, if it is a LOGREL, is not pruned
-pub counted-longer : {heads : ℕ → ℕ} {history : List Fed} {pruned : ℕ → ℕ} (fed : Fed) → ((lock : ℕ) → LogsRelease fed lock → heads (fed .thread) ≤ madeBy (thenFed history fed) (fed .thread) (suc (length history))) → Counted heads history pruned → Counted heads (thenFed history fed) pruned
+pub counted-longer : {given heads : ℕ → ℕ} {history : List Fed} {pruned : ℕ → ℕ} (fed : Fed) → ((lock : ℕ) → LogsRelease fed lock → heads (fed .thread) ≤ madeBy given (thenFed history fed) (fed .thread) (suc (length history))) → Counted given heads history pruned → Counted given heads (thenFed history fed) pruned
 unfolding countBelow
-counted-longer {heads} {history} fed notPruned counted = record {
+counted-longer {given} {heads} {history} fed notPruned counted = record {
   number = λ lock.
       let before = counted .number lock in
-      let longer : countBelow (prunedTest heads history lock) (length history) ≡ countBelow (prunedTest heads (thenFed history fed) lock) (length history) =
+      let longer : countBelow (prunedTest given heads history lock) (length history) ≡ countBelow (prunedTest given heads (thenFed history fed) lock) (length history) =
       count-same
-      (prunedTest heads history lock)
-      (prunedTest heads (thenFed history fed) lock)
+      (prunedTest given heads history lock)
+      (prunedTest given heads (thenFed history fed) lock)
       (length history)
-      (λ place before. rw (last-before history fed before, step-before history fed before)) in
+      (λ place before. rw (last-before history fed given before, step-before history fed before)) in
       rw (length-then history fed, new-fails lock) (omega arith);
 }
   where
-    new-fails : (lock : ℕ) → prunedTest heads (thenFed history fed) lock (length history) ≡ false
+    new-fails : (lock : ℕ) → prunedTest given heads (thenFed history fed) lock (length history) ≡ false
     new-fails lock =
         rw (step-new history fed)
-        (releases-fail fed lock (ltb (madeBy (thenFed history fed) (fed .thread) (suc (length history))) (heads (fed .thread))) (λ releases. le-ltb _ _ (notPruned lock releases)))
+        (releases-fail fed lock (ltb (madeBy given (thenFed history fed) (fed .thread) (suc (length history))) (heads (fed .thread))) (λ releases. le-ltb _ _ (notPruned lock releases)))
 
 -- a PRUNE counts one more RELEASE of a lock if the region ends in one, and no more of another
 abbrev pub PrunedOne : Entries → ℕ → ℕ → ℕ → ℕ → ℕ → Type 0
@@ -96,7 +96,7 @@ module _ {old new : Entries} {now thread size : ℕ} {history : List Fed} (step 
   last = old .head thread + size - 1
 
   -- a LOGREL step that does not stand at the region's last entry is as pruned as it was
-  elsewhere : (lock place : ℕ) → (LogsRelease (stepAt history place) lock → stepAt history place .thread ≡ thread → lastOf history place ≡ last → ⊥) → prunedTest (old .head) history lock place ≡ prunedTest (new .head) history lock place
+  elsewhere : (lock place : ℕ) → (LogsRelease (stepAt history place) lock → stepAt history place .thread ≡ thread → lastOf (old .before) history place ≡ last → ⊥) → prunedTest (old .before) (old .head) history lock place ≡ prunedTest (old .before) (new .head) history lock place
   elsewhere lock place notLast =
       releases-agree (stepAt history place) lock _ _ (λ releases.
       by-cases
@@ -104,7 +104,7 @@ module _ {old new : Entries} {now thread size : ℕ} {history : List Fed} (step 
       (λ same.
       let says = steps .stands releases .isEntry .says in
       rw (same, step .headMore)
-      (mine (madeBy history thread (suc place)) (ap isRelease (rw same at says)) (λ isLast. notLast releases same (rw same isLast))))
+      (mine (madeBy (old .before) history thread (suc place)) (ap isRelease (rw same at says)) (λ isLast. notLast releases same (rw same isLast))))
       (λ differs. rw (step .headOther _ differs)))
     where
       mine : (number : ℕ) → isRelease (old .event thread number) ≡ true → (number ≡ last → ⊥) → ltb number (old .head thread) ≡ ltb number (old .head thread + size)
@@ -125,24 +125,24 @@ module _ {old new : Entries} {now thread size : ℕ} {history : List Fed} (step 
 
   last-made : Made old thread last
   last-made =
-      let positive = step .headPositive in
+      let since = step .headSince in
       let some-entry = step .notEmpty in
       let within = step .within in
-      record { positive = omega arith; below = omega arith }
+      record { since = omega arith; below = omega arith }
 
-  pub counted-prune : {pruned after : ℕ → ℕ} → ((lock : ℕ) → PrunedOne old thread last lock (pruned lock) (after lock)) → Counted (old .head) history pruned → Counted (new .head) history after
+  pub counted-prune : {pruned after : ℕ → ℕ} → ((lock : ℕ) → PrunedOne old thread last lock (pruned lock) (after lock)) → Counted (old .before) (old .head) history pruned → Counted (old .before) (new .head) history after
   counted-prune {pruned} {after} cases counted = record { number = λ lock. ⊎-elim (ended lock) (unended lock) (cases lock) }
     where
-      unended : (lock : ℕ) → ((count : SyncCount) → old .event thread last ≡ Release lock count → ⊥) × (after lock ≡ pruned lock) → after lock ≡ countBelow (prunedTest (new .head) history lock) (length history)
+      unended : (lock : ℕ) → ((count : SyncCount) → old .event thread last ≡ Release lock count → ⊥) × (after lock ≡ pruned lock) → after lock ≡ countBelow (prunedTest (old .before) (new .head) history lock) (length history)
       unended lock same =
           same .1 ∙
           (counted .number lock ∙
-          count-same (prunedTest (old .head) history lock) (prunedTest (new .head) history lock) (length history) (λ place under.
+          count-same (prunedTest (old .before) (old .head) history lock) (prunedTest (old .before) (new .head) history lock) (length history) (λ place under.
           elsewhere lock place (λ releases isThread isLast.
           let found = steps .stands releases in
           same .0 (found .count) (rw (isLast, isThread) at (found .isEntry .says)))))
 
-      ended : (lock : ℕ) → (count : SyncCount) × (old .event thread last ≡ Release lock count) × (after lock ≡ suc (pruned lock)) → after lock ≡ countBelow (prunedTest (new .head) history lock) (length history)
+      ended : (lock : ℕ) → (count : SyncCount) × (old .event thread last ≡ Release lock count) × (after lock ≡ suc (pruned lock)) → after lock ≡ countBelow (prunedTest (old .before) (new .head) history lock) (length history)
       ended lock ends =
           let maker = steps .made (record { made = last-made; says = ends .1 }) in
           let place = old .time thread last in
@@ -151,8 +151,8 @@ module _ {old new : Entries} {now thread size : ℕ} {history : List Fed} (step 
           (ap suc (counted .number lock) ∙
           sym
           (count-more
-          (prunedTest (old .head) history lock)
-          (prunedTest (new .head) history lock)
+          (prunedTest (old .before) (old .head) history lock)
+          (prunedTest (old .before) (new .head) history lock)
           (length history)
           place
           (accepted-inside history place (maker .isStep .isAccepted))

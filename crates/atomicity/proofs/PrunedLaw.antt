@@ -2,15 +2,12 @@
 use Prim.Native.Nat.{ℕ, zero, suc, _+_, _-_, _≤_, _<_}
 use native.Mathlib.Omega.{arith}
 use mathlib.Core.Path.{_≡_, refl, sym, ap, _∙_}
-use mathlib.Core.Bool.{Bool, true, false, cond, true≢false}
+use mathlib.Core.Bool.{true, false, true≢false}
 use mathlib.Core.List.{List, []}
 use mathlib.Core.Logic.{inl, inr}
 use mathlib.Core.Option.{some}
-use lib.Dec.{eqb}
-use lib.ListN.{length, getD, set, replicate}
+use lib.ListN.{length, getD, set}
 use borrow.Author.Tests.{eq-eqb}
-use Rattle.answer.specs.declared.Answer.the-variants.{Accepted, WrongLength}
-use Rattle.answer.proofs.ListLaws.{getD-blank}
 use Rattle.answer.proofs.RefusalLaws.{AllFail}
 use Rattle.cache.specs.Cache.{cellCount}
 use Rattle.log.specs.Entries.{liveEvent, flushLogOf, endReleaseOf, fenceLogOf, evictSlotOf, pruneOf}
@@ -23,15 +20,15 @@ use Rattle.log.specs.declared.SyncCount.{SyncCount}
 use Rattle.log.proofs.RegionLaws.{live-event}
 use Rattle.machine.specs.Clocks.{loadedOf, loggedCellOf}
 use Rattle.machine.specs.Effects.{loadEffect, logEffect, storeEffect, acquireEffect, logReleaseEffect, releaseEffect, flushEffect, flushLogEffect, fenceEffect, pruneEffect, evictEffect, evictLogEffect, countPruned, effect}
-use Rattle.machine.specs.Holds.{noLock, lockOf, withLog, freshMachine, startOf}
+use Rattle.machine.specs.Holds.{noLock, lockOf, withLog}
 use Rattle.machine.specs.Kinds.{Kind, LOAD, LOG, STORE, ACQUIRE, LOGREL, RELEASE, FLUSH, FLUSHLOG, FENCE, PRUNE, EVICT, EVICTLOG}
 use Rattle.machine.specs.declared.Lock.{Lock as LockState}
 use Rattle.machine.specs.declared.Machine.{Machine}
-use Rattle.machine.specs.declared.Stepped.{Stepped}
 use Rattle.machine.proofs.Asked.{acquire-asked, log-release-asked, release-asked, flush-log-asked, fence-asked, evict-log-asked, prune-asked}
 use Rattle.machine.proofs.StepLaws.{testsOf}
 use Rattle.reference.specs.Reference.{joins, isCommittedAt}
-use Rattle.atomicity.specs.History.{Fed, stepAt, bookBefore, startMachine, startCells, historyAfter}
+use Rattle.machine.proofs.Beginnings.{machineWith, AllIdle, lock-free, freshLogs, fresh-all, on-start}
+use Rattle.atomicity.specs.History.{Fed, stepAt, bookBefore, startMachine, historyAfter}
 use Rattle.atomicity.specs.Races.{endsCommitted, countCommitted, PrunedLaw}
 use Rattle.atomicity.proofs.Logged.{Keeps}
 use Rattle.atomicity.proofs.Cells.{Version}
@@ -45,8 +42,8 @@ use Rattle.atomicity.proofs.StepsFollow.{effect-follows, refused-follow
 use Rattle.atomicity.proofs.Times.{Formed, aRelease}
 use Rattle.atomicity.proofs.Views.{logAt, same-view}
 use Rattle.atomicity.proofs.Whole.{Whole, bookOf}
-use Rattle.atomicity.proofs.WholeRuns.{start-whole, after-whole}
-use Rattle.atomicity.proofs.World.{Ghost, World, entriesOf}
+use Rattle.atomicity.proofs.WholeRuns.{beginningOf, begin-whole, after-whole}
+use Rattle.atomicity.proofs.World.{Beginning, Ghost, World, entriesOf}
 use Rattle.atomicity.proofs.WorldQuiet.{EntriesStay, log-stays, logs-stay, world-refused, world-load, world-flush, world-evict, world-flush-log, world-fence, world-evict-log, storedVersions, world-store}
 use Rattle.atomicity.proofs.WorldAppends.{by-lock, appends, last-new, acquireEntry, releaseEntry, storeEntry, ghostThen, world-acquire, world-log-release, log-appends, loggedVersions, world-log}
 use Rattle.atomicity.proofs.WorldRelease.{world-release}
@@ -60,38 +57,38 @@ abbrev prunedOf : Machine → ℕ → ℕ
 prunedOf machine lock = lockOf machine lock .pruned .0
 
 -- an accepted LOGREL's region is committed just when its entry is below its thread's head
-committed-test : {start : List ℕ} {machine : Machine} {history : List Fed} → Whole start machine history → (lock place : ℕ) → endsCommitted start history lock place ≡ prunedTest (headsOf machine) history lock place
+committed-test : {start : Beginning} {machine : Machine} {history : List Fed} → Whole start machine history → (lock place : ℕ) → endsCommitted (start .cells) history lock place ≡ prunedTest (start .before) (headsOf machine) history lock place
 unfolding endsCommitted
 committed-test {start} {machine} {history} whole lock place =
     releases-agree (stepAt history place) lock _ _ (λ releases.
     let thread = stepAt history place .thread in
-    let book = bookBefore start history place in
+    let book = bookBefore (start .cells) history place in
     let joinedRegion : joins book (stepAt history place .kind) thread ≡ some (joinedPlace book thread) = ap (λ (kind : ℕ). joins book kind thread) (releases .isKind) ∙ joins-release book thread in
     let found = whole .joined place (joinedPlace book thread) (record { isAccepted = releases .isAccepted; joinedRegion = joinedRegion }) in
     rw joinedRegion (ap (isCommittedAt (bookOf start history .regions)) (sym (found .1)) ∙ whole .regions .committed (found .0)))
 
-count-committed : {start : List ℕ} {machine : Machine} {history : List Fed} → Whole start machine history → (lock count : ℕ) → countCommitted start history lock count ≡ countBelow (prunedTest (headsOf machine) history lock) count
+count-committed : {start : Beginning} {machine : Machine} {history : List Fed} → Whole start machine history → (lock count : ℕ) → countCommitted (start .cells) history lock count ≡ countBelow (prunedTest (start .before) (headsOf machine) history lock) count
 unfolding countCommitted countBelow
 count-committed whole lock zero = refl
 count-committed whole lock (suc count) = rw (committed-test whole lock count, count-committed whole lock count)
 
 -- what every step keeps: the world, which LOGREL made which RELEASE entry, and that the counters count those pruned
-record PrunesCount (start : List ℕ) (machine : Machine) (history : List Fed) : Type 0 where
+record PrunesCount (start : Beginning) (machine : Machine) (history : List Fed) : Type 0 where
   ghost : Ghost
   world : World start machine history ghost
   follows : Follows machine history
-  steps : ReleaseSteps history (entriesOf machine ghost)
-  counted : Counted (headsOf machine) history (prunedOf machine)
+  steps : ReleaseSteps history (entriesOf start machine ghost)
+  counted : Counted (start .before) (headsOf machine) history (prunedOf machine)
 
 release-formed : {lock : ℕ} {count : SyncCount} → Formed (Release lock count) → lock < 8
 release-formed (aRelease inRange) = inRange
 
-module _ {start : List ℕ} {machine : Machine} {history : List Fed} (holds : PrunesCount start machine history) where
+module _ {start : Beginning} {machine : Machine} {history : List Fed} (holds : PrunesCount start machine history) where
   abbrev was : Ghost
   was = holds .ghost
 
   -- a step that moves no head and changes no counter
-  headless : (after : Machine) (fed : Fed) (next : Ghost) → World start after (thenFed history fed) next → Follows after (thenFed history fed) → NewSteps history fed (entriesOf machine was) (entriesOf after next) → ((thread : ℕ) → headsOf after thread ≡ headsOf machine thread) → ((lock : ℕ) → prunedOf after lock ≡ prunedOf machine lock) → ((lock : ℕ) → LogsRelease fed lock → headsOf machine (fed .thread) ≤ madeBy (thenFed history fed) (fed .thread) (suc (length history))) → PrunesCount start after (thenFed history fed)
+  headless : (after : Machine) (fed : Fed) (next : Ghost) → World start after (thenFed history fed) next → Follows after (thenFed history fed) → NewSteps history fed (entriesOf start machine was) (entriesOf start after next) → ((thread : ℕ) → headsOf after thread ≡ headsOf machine thread) → ((lock : ℕ) → prunedOf after lock ≡ prunedOf machine lock) → ((lock : ℕ) → LogsRelease fed lock → headsOf machine (fed .thread) ≤ madeBy (start .before) (thenFed history fed) (fed .thread) (suc (length history))) → PrunesCount start after (thenFed history fed)
   headless after fed next world follows new heads pruned live = record {
     ghost = next;
     world = world;
@@ -101,7 +98,7 @@ module _ {start : List ℕ} {machine : Machine} {history : List Fed} (holds : Pr
   }
 
   -- and makes no entry
-  quiet : (after : Machine) (fed : Fed) (next : Ghost) → World start after (thenFed history fed) next → Follows after (thenFed history fed) → Keeps (entriesOf machine was) (entriesOf after next) (length history) → ((thread : ℕ) → headsOf after thread ≡ headsOf machine thread) → ((lock : ℕ) → prunedOf after lock ≡ prunedOf machine lock) → ((lock : ℕ) → LogsRelease fed lock → ⊥) → PrunesCount start after (thenFed history fed)
+  quiet : (after : Machine) (fed : Fed) (next : Ghost) → World start after (thenFed history fed) next → Follows after (thenFed history fed) → Keeps (entriesOf start machine was) (entriesOf start after next) (length history) → ((thread : ℕ) → headsOf after thread ≡ headsOf machine thread) → ((lock : ℕ) → prunedOf after lock ≡ prunedOf machine lock) → ((lock : ℕ) → LogsRelease fed lock → ⊥) → PrunesCount start after (thenFed history fed)
   quiet after fed next world follows keeps heads pruned noLogrel =
       headless after fed next world follows (no-entry keeps noLogrel) heads pruned (λ lock releases. absurd (noLogrel lock releases))
 
@@ -113,7 +110,7 @@ module _ {start : List ℕ} {machine : Machine} {history : List Fed} (holds : Pr
       was
       (world-refused (holds .world) fed isRefused)
       (refused-follows machine history (holds .follows) fed isRefused)
-      (same-view (entriesOf machine was) (length history))
+      (same-view (entriesOf start machine was) (length history))
       (λ thread. refl)
       (λ lock. refl)
       (λ lock releases. true≢false (sym (releases .isAccepted) ∙ isRefused))
@@ -123,7 +120,7 @@ module _ {start : List ℕ} {machine : Machine} {history : List Fed} (holds : Pr
     abbrev Kept : Kind → Type 0
     Kept kind = AllFail (testsOf machine kind thread place value) → PrunesCount start (effect machine kind thread place value .machine) (thenFed history (tookStep kind thread place value))
 
-    quiet-kind : (kind : Kind) (versions : ℕ → List Version) → World start (effect machine kind thread place value .machine) (thenFed history (tookStep kind thread place value)) (record { event = was .event; time = was .time; versions = versions }) → EntriesStay machine (effect machine kind thread place value .machine) was (length history) → ((lock : ℕ) → prunedOf (effect machine kind thread place value .machine) lock ≡ prunedOf machine lock) → (kindNumber kind ≡ 5 → ⊥) → Kept kind
+    quiet-kind : (kind : Kind) (versions : ℕ → List Version) → World start (effect machine kind thread place value .machine) (thenFed history (tookStep kind thread place value)) (record { event = was .event; time = was .time; versions = versions }) → EntriesStay start machine (effect machine kind thread place value .machine) was (length history) → ((lock : ℕ) → prunedOf (effect machine kind thread place value .machine) lock ≡ prunedOf machine lock) → (kindNumber kind ≡ 5 → ⊥) → Kept kind
     quiet-kind kind versions world stay pruned noLogrel fails =
         quiet
         (effect machine kind thread place value .machine)
@@ -142,19 +139,19 @@ module _ {start : List ℕ} {machine : Machine} {history : List Fed} (holds : Pr
     -- the logs and the locks stay as they are
     load-counts : Kept LOAD
     unfolding effect loadEffect loadedOf
-    load-counts fails = quiet-kind LOAD (was .versions) (world-load (holds .world) thread place value fails) (logs-stay machine _ was (length history) refl) (λ lock. refl) (λ isKind. omega arith) fails
+    load-counts fails = quiet-kind LOAD (was .versions) (world-load (holds .world) thread place value fails) (logs-stay start machine _ was (length history) refl) (λ lock. refl) (λ isKind. omega arith) fails
 
     store-counts : Kept STORE
     unfolding effect storeEffect
-    store-counts fails = quiet-kind STORE (storedVersions (holds .world) thread place value .versions) (world-store (holds .world) thread place value fails) (logs-stay machine _ was (length history) refl) (λ lock. refl) (λ isKind. omega arith) fails
+    store-counts fails = quiet-kind STORE (storedVersions (holds .world) thread place value .versions) (world-store (holds .world) thread place value fails) (logs-stay start machine _ was (length history) refl) (λ lock. refl) (λ isKind. omega arith) fails
 
     flush-counts : Kept FLUSH
     unfolding effect flushEffect
-    flush-counts fails = quiet-kind FLUSH (was .versions) (world-flush (holds .world) thread place value fails) (logs-stay machine _ was (length history) refl) (λ lock. refl) (λ isKind. omega arith) fails
+    flush-counts fails = quiet-kind FLUSH (was .versions) (world-flush (holds .world) thread place value fails) (logs-stay start machine _ was (length history) refl) (λ lock. refl) (λ isKind. omega arith) fails
 
     evict-counts : Kept EVICT
     unfolding effect evictEffect
-    evict-counts fails = quiet-kind EVICT (was .versions) (world-evict (holds .world) thread place value fails) (logs-stay machine _ was (length history) refl) (λ lock. refl) (λ isKind. omega arith) fails
+    evict-counts fails = quiet-kind EVICT (was .versions) (world-evict (holds .world) thread place value fails) (logs-stay start machine _ was (length history) refl) (λ lock. refl) (λ isKind. omega arith) fails
 
     -- the thread's log changes, without an entry more
     flush-log-counts : Kept FLUSHLOG
@@ -164,7 +161,7 @@ module _ {start : List ℕ} {machine : Machine} {history : List Fed} (holds : Pr
         FLUSHLOG
         (was .versions)
         (world-flush-log (holds .world) thread place value fails)
-        (log-stays machine _ was (length history) thread (flushLogOf (logAt (machine .logs) thread)) refl (inLogs (flush-log-asked machine thread place value fails)) refl refl (omega arith))
+        (log-stays start machine _ was (length history) thread (flushLogOf (logAt (machine .logs) thread)) refl (inLogs (flush-log-asked machine thread place value fails)) refl refl (omega arith))
         (λ lock. refl)
         (λ isKind. omega arith)
         fails
@@ -177,7 +174,7 @@ module _ {start : List ℕ} {machine : Machine} {history : List Fed} (holds : Pr
         FENCE
         (was .versions)
         (world-fence (holds .world) thread place value fails)
-        (log-stays machine _ was (length history) thread (fenceLogOf (logAt (machine .logs) thread)) refl (inLogs inRange) refl refl (holds .world .logs thread inRange .durableFlushed))
+        (log-stays start machine _ was (length history) thread (fenceLogOf (logAt (machine .logs) thread)) refl (inLogs inRange) refl refl (holds .world .logs thread inRange .durableFlushed))
         (λ lock. refl)
         (λ isKind. omega arith)
         fails
@@ -189,7 +186,7 @@ module _ {start : List ℕ} {machine : Machine} {history : List Fed} (holds : Pr
         EVICTLOG
         (was .versions)
         (world-evict-log (holds .world) thread place value fails)
-        (log-stays machine _ was (length history) thread (evictSlotOf (logAt (machine .logs) thread) place) refl (inLogs (evict-log-asked machine thread place value fails .inThread)) refl refl (omega arith))
+        (log-stays start machine _ was (length history) thread (evictSlotOf (logAt (machine .logs) thread) place) refl (inLogs (evict-log-asked machine thread place value fails .inThread)) refl refl (omega arith))
         (λ lock. refl)
         (λ isKind. omega arith)
         fails
@@ -206,7 +203,7 @@ module _ {start : List ℕ} {machine : Machine} {history : List Fed} (holds : Pr
         RELEASE
         (was .versions)
         (world-release (holds .world) thread place value fails)
-        (log-stays machine _ was (length history) thread (endReleaseOf (logAt (machine .logs) thread)) refl (inLogs (asked .inThread)) refl refl (omega arith))
+        (log-stays start machine _ was (length history) thread (endReleaseOf (logAt (machine .logs) thread)) refl (inLogs (asked .inThread)) refl refl (omega arith))
         (same-pruned _ (asked .inLock) refl)
         (λ isKind. omega arith)
         fails
@@ -269,13 +266,13 @@ module _ {start : List ℕ} {machine : Machine} {history : List Fed} (holds : Pr
     abbrev last : ℕ
     last = log .head .0 + oldestRegion log - 1
 
-    pruned-one : (event : Event) → was .event thread last ≡ event → Formed event → (lock : ℕ) → PrunedOne (entriesOf machine was) thread last lock (prunedOf machine lock) (prunedOf (countPruned (withLog machine thread (pruneOf log (oldestRegion log))) event) lock)
+    pruned-one : (event : Event) → was .event thread last ≡ event → Formed event → (lock : ℕ) → PrunedOne (entriesOf start machine was) thread last lock (prunedOf machine lock) (prunedOf (countPruned (withLog machine thread (pruneOf log (oldestRegion log))) event) lock)
     pruned-one Empty says formed lock = inr ((λ count ends. true≢false (sym (ap isRelease ends) ∙ ap isRelease says)), refl)
     pruned-one (Store cell old) says formed lock = inr ((λ count ends. true≢false (sym (ap isRelease ends) ∙ ap isRelease says)), refl)
     pruned-one (Acquire other count) says formed lock = inr ((λ larger ends. true≢false (sym (ap isRelease ends) ∙ ap isRelease says)), refl)
     pruned-one (Release other count) says formed lock =
         by-lock
-        (λ found state. PrunedOne (entriesOf machine was) thread last found (prunedOf machine found) (state .pruned .0))
+        (λ found state. PrunedOne (entriesOf start machine was) thread last found (prunedOf machine found) (state .pruned .0))
         (machine .locks)
         other
         _
@@ -284,16 +281,16 @@ module _ {start : List ℕ} {machine : Machine} {history : List Fed} (holds : Pr
         (λ found differs. inr ((λ larger ends. differs (cc)), refl))
         lock
 
-    prune-one : AllFail (testsOf machine PRUNE thread place value) → (lock : ℕ) → PrunedOne (entriesOf machine was) thread last lock (prunedOf machine lock) (prunedOf (effect machine PRUNE thread place value .machine) lock)
+    prune-one : AllFail (testsOf machine PRUNE thread place value) → (lock : ℕ) → PrunedOne (entriesOf start machine was) thread last lock (prunedOf machine lock) (prunedOf (effect machine PRUNE thread place value .machine) lock)
     unfolding effect pruneEffect
     prune-one fails =
         let asked = prune-asked machine thread place value fails in
         let region = prune-regions (holds .world) thread asked in
-        let positive = region .headPositive in
+        let since = region .headSince in
         let some-entry = region .notEmpty in
         let within = region .within in
         let says = live-event log (was .event thread) (holds .world .logs thread (asked .inThread)) (oldestRegion log - 1) last (omega arith) (omega arith) in
-        let formed = holds .world .times .formed thread last (record { positive = omega arith; below = omega arith }) in
+        let formed = holds .world .times .formed thread last (record { since = omega arith; below = omega arith }) in
         pruned-one (liveEvent log (oldestRegion log - 1)) (sym says) (rw (← says) at formed)
 
     prune-counts : Kept PRUNE
@@ -328,19 +325,11 @@ module _ {start : List ℕ} {machine : Machine} {history : List Fed} (holds : Pr
   effect-counts EVICT = evict-counts
   effect-counts EVICTLOG = evict-log-counts
 
--- at the start no step was taken, no entry made, and each counter is 0
-start-pruned : (words : List ℕ) (lock : ℕ) → prunedOf (startMachine words) lock ≡ 0
-unfolding startOf freshMachine
-start-pruned words lock = by-length (eqb (length words) cellCount)
-  where
-    by-length : (isLength : Bool) → prunedOf (cond {A = Stepped} isLength (record { answer = Accepted 0; machine = freshMachine words }) (record { answer = WrongLength; machine = freshMachine (replicate cellCount 0) }) .machine) lock ≡ 0
-    by-length true = ap (λ (state : LockState). state .pruned .0) (getD-blank 8 lock noLock)
-    by-length false = ap (λ (state : LockState). state .pruned .0) (getD-blank 8 lock noLock)
-
-start-counts : (words : List ℕ) → PrunesCount (startCells words) (startMachine words) []
+-- at a beginning no step was taken, no entry made, and each counter is 0
+begin-counts : (cells : List ℕ) (logs : List Log) → length cells ≡ cellCount → AllIdle logs → PrunesCount (beginningOf (machineWith cells logs)) (machineWith cells logs) []
 unfolding countBelow
-start-counts words =
-    let whole = start-whole words in
+begin-counts cells logs isLength all =
+    let whole = begin-whole cells logs isLength all in
     record {
       ghost = whole .ghost;
       world = whole .world;
@@ -349,18 +338,18 @@ start-counts words =
         stands = λ releases. absurd (true≢false (sym (releases .isAccepted)));
         made = λ {thread} {number} is. let past = whole .world .times .past thread number (is .made) in absurd (omega arith);
       };
-      counted = record { number = start-pruned words };
+      counted = record { number = λ lock. ap (λ (state : LockState). state .pruned .0) (lock-free logs all cells lock) };
     }
 
 pub pruned-law : PrunedLaw
 pruned-law words steps lock inRange =
     let holds =
     run-keeps
-    (PrunesCount (startCells words))
+    (PrunesCount (beginningOf (startMachine words)))
     (λ machine history holds next isRefused. refused-counts holds next isRefused)
     (λ machine history holds kind thread place value fails. effect-counts holds kind thread place value fails)
     (startMachine words)
     []
-    (start-counts words)
+    (on-start (λ machine. PrunesCount (beginningOf machine) machine []) (λ cells isLength. begin-counts cells freshLogs isLength fresh-all) words)
     steps in
     holds .counted .number lock ∙ sym (count-committed (after-whole words steps) lock (length (historyAfter words steps)))

@@ -1,14 +1,13 @@
 -- What the clock tests of a LOAD and a LOG tell on a machine whose clocks and accesses are those of a history.
-use Prim.Native.Nat.{ℕ, zero, suc, _<_, _≤_}
+use Prim.Native.Nat.{ℕ, _<_, _≤_}
 use mathlib.Core.Path.{_≡_, refl, ap}
-use mathlib.Core.Bool.{Bool, true, false, _||_, false≢true, true≢false}
+use mathlib.Core.Bool.{true, false}
 use mathlib.Core.List.{List, [], _∷_}
 use mathlib.Core.Logic.{⊎-elim, by-cases, _≢_}
 use native.Mathlib.Decide.{ℕ-discrete}
 use native.Mathlib.Omega.{arith}
 use lib.ListN.{length, getD}
 use borrow.Author.Tests.{leb-true, leb-false, not-true, not-false}
-use Rattle.answer.specs.Lists.{someBelow}
 use Rattle.answer.proofs.BelowLaws.{someBelow-none, someBelow-found}
 use Rattle.cache.specs.Cache.{cellCount}
 use Rattle.machine.specs.Clocks.{clockAt, accessPlace, loadRaces, logRaces}

@@ -4,26 +4,24 @@ use Prim.Native.Nat.{ℕ, zero, suc, _+_, _-_, _≤_, _<_}
 use native.Mathlib.Decide.{decLt}
 use native.Mathlib.Omega.{arith}
 use mathlib.Core.Path.{_≡_, refl, sym, ap, _∙_, subst}
-use mathlib.Core.Bool.{Bool, true, false, cond, not, _||_, true≢false}
+use mathlib.Core.Bool.{Bool, true, false, cond}
 use mathlib.Core.List.{List, [], _∷_, map}
 use mathlib.Core.Option.{Option, none, some}
 use mathlib.Core.Logic.{_⊎_, inl, inr, ⊎-elim, by-cases}
-use lib.ListN.{length, getD, take, length-map, List·getD-eq-default}
+use lib.ListN.{length, getD, length-map, List·getD-eq-default}
 use lib.Dec.{eqb, ltb}
 use borrow.Author.Tests.{lt-ltb, le-ltb, ne-eqb}
-use Rattle.answer.specs.Lists.{tab, someBelow}
+use Rattle.answer.specs.Lists.{someBelow}
 use Rattle.answer.proofs.BelowLaws.{none-someBelow}
-use Rattle.answer.proofs.ListLaws.{length-tab, getD-tab, map-tab}
+use Rattle.answer.proofs.ListLaws.{length-tab, getD-tab}
 use Rattle.cache.proofs.CacheLaws as CacheLaws
 use Rattle.log.specs.Entries.{syncCount, kindOf, placeOf, valueOf, wordsOf}
-use Rattle.stretch.specs.Stretch.{imageWords, headsAt, stretchOf, kindAt, placeAt, valueAt, presentOf}
+use Rattle.stretch.specs.Stretch.{headsAt, stretchOf, presentOf}
 use Rattle.log.specs.declared.Event.{Event}
 use Rattle.log.specs.declared.Event.the-variants.{Empty, Store, Acquire, Release}
 use Rattle.log.specs.declared.Log.{Log}
-use Rattle.log.specs.declared.SyncCount.{SyncCount}
 use Rattle.stretch.proofs.ImageLaws.{Reads}
 use Rattle.log.proofs.ImageLaws.{logs-read}
-use Rattle.log.proofs.LogInvariant.{LogHolds}
 use Rattle.log.proofs.PresentLaws.{PresentAre, present-are}
 use Rattle.log.proofs.SlotLaws.{WordsAre}
 use Rattle.machine.specs.Holds.{noLog, lockOf}
@@ -36,12 +34,12 @@ use Rattle.reference.specs.Reference.{Book, emptyBook, openOf, openUnless, writ
 use Rattle.atomicity.specs.History.{Fed, fedBook}
 use Rattle.atomicity.proofs.Logged.{Entries, Made, Is, IsReleaseOf, IsAcquireOf}
 use Rattle.atomicity.proofs.Leads.{Leads, inThread, byLock, through, leads-pruned}
-use Rattle.atomicity.proofs.OldestLive.{prunedValue, UndoCell, undo-cell, leads-present}
+use Rattle.atomicity.proofs.OldestLive.{prunedValue, undo-cell, leads-present}
 use Rattle.atomicity.proofs.Times.{Formed, aStore, anAcquire, aRelease}
-use Rattle.atomicity.proofs.Undoable.{Remains, Handed, Below, Untouched, Oldest, Undoable, older, handed, joined}
+use Rattle.atomicity.proofs.Undoable.{Remains, Below, Untouched, Oldest, Undoable, older, handed, joined}
 use Rattle.atomicity.proofs.Views.{logAt}
 use Rattle.atomicity.proofs.Whole.{Whole, bookOf}
-use Rattle.atomicity.proofs.World.{Ghost, World, entriesOf, locksOf, contentsOf}
+use Rattle.atomicity.proofs.World.{Beginning, Ghost, World, entriesOf}
 use Rattle.atomicity.proofs.Writes.{book-cell, book-length}
 
 -- the reference model keeps its start cells
@@ -112,12 +110,12 @@ getD-mapped f [] place default other inRange = absurd (omega arith)
 getD-mapped f (first ∷ list) zero default other inRange = refl
 getD-mapped f (first ∷ list) (suc place) default other inRange = getD-mapped f list place default other (omega arith)
 
-module _ {start : List ℕ} {machine : Machine} {history : List Fed} (whole : Whole start machine history) (counted : Counted machine) (startLength : length start ≡ 128) where
+module _ {start : Beginning} {machine : Machine} {history : List Fed} (whole : Whole start machine history) (counted : Counted machine) (startLength : length (start .cells) ≡ 128) where
   abbrev ghost : Ghost
   ghost = whole .ghost
 
   abbrev entries : Entries
-  entries = entriesOf machine ghost
+  entries = entriesOf start machine ghost
 
   abbrev pub image : List ℕ
   image = imageOf machine
@@ -201,8 +199,8 @@ module _ {start : List ℕ} {machine : Machine} {history : List Fed} (whole : Wh
       let inRange = left-thread thread index isLeft in
       let live = presents thread inRange .presentLive in
       let same = left-is thread inRange in
-      let positive = world .logs thread inRange .headPositive in
-      record { positive = omega arith; below = omega arith }
+      let since = world .begins thread inRange in
+      record { since = omega arith; below = omega arith }
 
   -- a present entry's kind, place and value, as recovery reads them
   kind-at : (thread index : ℕ) → index < leftOf left thread → entryKind (storedLog (storedLogs image) thread) index ≡ kindOf (ghost .event thread (logAt (machine .logs) thread .head .0 + index))
@@ -334,11 +332,11 @@ module _ {start : List ℕ} {machine : Machine} {history : List Fed} (whole : Wh
   final = cellsOf (bookOf start history)
 
   pub final-length : length final ≡ 128
-  final-length = book-length (bookOf start history) ∙ (ap length (book-start (emptyBook start) history) ∙ startLength)
+  final-length = book-length (bookOf start history) ∙ (ap length (book-start (emptyBook (start .cells)) history) ∙ startLength)
 
-  final-at : (cell : ℕ) → cell < 128 → getD final cell 0 ≡ prunedValue entries (getD start cell 0) (ghost .versions cell)
+  final-at : (cell : ℕ) → cell < 128 → getD final cell 0 ≡ prunedValue entries (getD (start .cells) cell 0) (ghost .versions cell)
   final-at cell inRange =
-      let same = book-start (emptyBook start) history in
+      let same = book-start (emptyBook (start .cells)) history in
       book-cell
       (bookOf start history)
       (world .prunes)

@@ -46,7 +46,7 @@ pub record RegionsHold (entries : Entries) (regions : List Region) (home : ℕ �
   pub inhabited : {thread place : ℕ} → place < length regions → regionAt regions place .thread ≡ thread → (number : ℕ) × Made entries thread number × (home thread number ≡ place)
 
 -- at the start there are no regions and no entries
-pub regions-start : {entries : Entries} {home : ℕ → ℕ → ℕ} → ((thread : ℕ) → entries .next thread ≤ 1) → RegionsHold entries [] home
+pub regions-start : {entries : Entries} {home : ℕ → ℕ → ℕ} → ((thread : ℕ) → entries .next thread ≤ suc (entries .before thread)) → RegionsHold entries [] home
 regions-start {entries} {home} fresh = record {
   inRange = λ made. nothing made;
   owner = λ made. nothing made;
@@ -156,14 +156,14 @@ open-region {entries} {regions} {home} {thread} {number} holds last = record {
 pub unended-or-not : (entries : Entries) (thread : ℕ) → ((number : ℕ) × Unended entries thread number) ⊎ ((number : ℕ) → Unended entries thread number → ⊥)
 unended-or-not entries thread =
     by-cases
-    (decLt 1 (entries .next thread))
+    (decLt (suc (entries .before thread)) (entries .next thread))
     (λ some-entry. by-event (isRelease (entries .event thread (entries .next thread - 1))) refl some-entry)
     (λ no-entry. inr (λ number last.
-    let positive = last .made .positive in
+    let since = last .made .since in
     let below = last .made .below in
     no-entry (omega arith)))
   where
-    by-event : (ends : Bool) → isRelease (entries .event thread (entries .next thread - 1)) ≡ ends → 1 < entries .next thread → ((number : ℕ) × Unended entries thread number) ⊎ ((number : ℕ) → Unended entries thread number → ⊥)
+    by-event : (ends : Bool) → isRelease (entries .event thread (entries .next thread - 1)) ≡ ends → suc (entries .before thread) < entries .next thread → ((number : ℕ) × Unended entries thread number) ⊎ ((number : ℕ) → Unended entries thread number → ⊥)
     by-event true isEnd some-entry = inr (λ number last.
         let isLast = last .isLast in
         let place : entries .next thread - 1 ≡ number = omega arith in
@@ -172,7 +172,7 @@ unended-or-not entries thread =
         inl (
           entries .next thread - 1,
           record {
-            made = record { positive = omega arith; below = omega arith };
+            made = record { since = omega arith; below = omega arith };
             isLast = omega arith;
             noRelease = isNoEnd;
           },
@@ -183,19 +183,19 @@ stands-together : {entries : Entries} {regions : List Region} {home : ℕ → �
 stands-together {number} holds made noRelease noBoundary zero madeLater = rw (add-zero number) (refl, noRelease)
 stands-together {entries} {regions} {home} {thread} {number} holds made noRelease noBoundary (suc count) madeLater =
     let place = add-suc number count in
-    let positive = made .positive in
+    let since = made .since in
     let further : Made entries thread (suc (number + count)) = rw place at madeLater in
     let below = further .below in
-    let nearer : Made entries thread (number + count) = record { positive = omega arith; below = omega arith } in
+    let nearer : Made entries thread (number + count) = record { since = omega arith; below = omega arith } in
     let before = stands-together holds made noRelease noBoundary count nearer in
     let after = noBoundary (suc (number + count)) (omega arith) further in
     rw place (before .0 ∙ holds .same nearer further (before .1) (after .0), after .1)
 
 pub unended-current : {entries : Entries} {regions : List Region} {home : ℕ → ℕ → ℕ} {thread number : ℕ} → RegionsHold entries regions home → Made entries thread number → isRelease (entries .event thread number) ≡ false → NoBoundaryAfter entries thread number → (last : ℕ) × Unended entries thread last × (home thread number ≡ home thread last)
 unended-current {entries} {regions} {home} {thread} {number} holds made noRelease noBoundary =
-    let positive = made .positive in
+    let since = made .since in
     let below = made .below in
-    let isLast : Made entries thread (number + (entries .next thread - suc number)) = record { positive = omega arith; below = omega arith } in
+    let isLast : Made entries thread (number + (entries .next thread - suc number)) = record { since = omega arith; below = omega arith } in
     let together = stands-together holds made noRelease noBoundary (entries .next thread - suc number) isLast in (
       number + (entries .next thread - suc number),
       record { made = isLast; isLast = omega arith; noRelease = together .1 },

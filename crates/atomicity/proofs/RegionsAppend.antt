@@ -65,7 +65,7 @@ module _ {old new : Entries} {now thread : ℕ} {event : Event} {regions joined 
       rw (same, number-is, step .homeNew) (is (sym (ap isRelease (step .appends .saysNew)) ∙ noRelease)))
       (λ differs.
       let unchanged = step .appends .nextOther other differs in
-      let before : Made old other number = record { positive = last .made .positive; below = rw unchanged at (last .made .below) } in
+      let before : Made old other number = record { since = rw (step .appends .grows .beforeSame) at (last .made .since); below = rw unchanged at (last .made .below) } in
       rw (step .homeKept other number before) (was other number differs (unended-was (step .appends .grows) unchanged before last)))
 
   -- another thread's last entry
@@ -96,9 +96,9 @@ module _ {old new : Entries} {now thread : ℕ} {event : Event} {regions joined 
   -- and so does each older one
   all-before : (number : ℕ) → Made old thread number → home thread number ≤ place
   all-before number made =
-      let positive = made .positive in
+      let since = made .since in
       let below = made .below in
-      let last : Made old thread (old .next thread - 1) = record { positive = omega arith; below = omega arith } in
+      let last : Made old thread (old .next thread - 1) = record { since = omega arith; below = omega arith } in
       let onward = holds .grows made last (omega arith) in
       let bound = last-before (old .next thread - 1) last (omega arith) in
       omega arith
@@ -108,14 +108,14 @@ module _ {old new : Entries} {now thread : ℕ} {event : Event} {regions joined 
   by-neighbours P both newer {other} {number} made madeNext =
       ⊎-elim
       (λ next.
-      let positive = made .positive in
+      let since = rw (step .appends .grows .beforeSame) at (made .since) in
       let below = next .below in
-      let before : Made old other number = record { positive = positive; below = omega arith } in
+      let before : Made old other number = record { since = since; below = omega arith } in
       rw (step .homeKept other number before, step .homeKept other (suc number) next) (both other number before next))
       (λ at.
-      let positive = made .positive in
+      let since = rw (step .appends .grows .beforeSame, at .0) at (made .since) in
       let isLast = at .1 in
-      let before : Made old thread number = record { positive = positive; below = omega arith } in
+      let before : Made old thread number = record { since = since; below = omega arith } in
       let home-is : after thread (suc number) ≡ place = ap (after thread) isLast ∙ step .homeNew in
       rw (at .0, home-is, step .homeKept thread number before) (newer number before isLast))
       (made-cases (step .appends) madeNext)
@@ -174,9 +174,9 @@ module _ {old new : Entries} {now thread : ℕ} {event : Event} {regions joined 
     grows = λ {thread = other} {number} {later} made madeLater before.
         ⊎-elim
         (λ wasLater.
-        let positive = made .positive in
+        let since = rw (step .appends .grows .beforeSame) at (made .since) in
         let below = wasLater .below in
-        let wasMade : Made old other number = record { positive = positive; below = omega arith } in
+        let wasMade : Made old other number = record { since = since; below = omega arith } in
         rw (step .homeKept other number wasMade, step .homeKept other later wasLater) (holds .grows wasMade wasLater before))
         (λ at.
         ⊎-elim

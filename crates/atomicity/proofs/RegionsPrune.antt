@@ -19,7 +19,7 @@ use Rattle.atomicity.proofs.Regions.{Unended, Boundary, RegionsHold, Sa
 pub record PruneRegions (old new : Entries) (now thread size : ℕ) : Type 0 where
   pub keeps : Keeps old new now
   pub notEmpty : 1 ≤ size
-  pub headPositive : 1 ≤ old .head thread
+  pub headSince : old .before thread < old .head thread
   pub headMore : new .head thread ≡ old .head thread + size
   pub headOther : (other : ℕ) → (other ≡ thread → ⊥) → new .head other ≡ old .head other
   pub within : old .head thread + size ≤ old .next thread
@@ -34,16 +34,16 @@ module _ {old new : Entries} {now thread size : ℕ} {regions : List Region} {ho
   -- an entry of the pruned region
   made-inside : (count : ℕ) → count < size → Made old thread (old .head thread + count)
   made-inside count under =
-      let positive = step .headPositive in
+      let since = step .headSince in
       let bound = step .within in
-      record { positive = omega arith; below = omega arith }
+      record { since = omega arith; below = omega arith }
 
   head-made : Made old thread (old .head thread)
   head-made =
-      let positive = step .headPositive in
+      let since = step .headSince in
       let bound = step .within in
       let some-entry = step .notEmpty in
-      record { positive = omega arith; below = omega arith }
+      record { since = omega arith; below = omega arith }
 
   -- all of them stand in the region of the first one
   together : (count : ℕ) → count < size → home thread (old .head thread + count) ≡ home thread (old .head thread)
@@ -65,11 +65,11 @@ module _ {old new : Entries} {now thread size : ℕ} {regions : List Region} {ho
   outside : {number : ℕ} → old .head thread + size ≤ number → Made old thread number → home thread (old .head thread) < home thread number
   outside {number} from made =
       let some-entry = step .notEmpty in
-      let positive = step .headPositive in
+      let since = step .headSince in
       let below = made .below in
       let last : suc (old .head thread + size - 1) ≡ old .head thread + size = omega arith in
-      let madeLast : Made old thread (old .head thread + size - 1) = record { positive = omega arith; below = omega arith } in
-      let madeNext : Made old thread (suc (old .head thread + size - 1)) = record { positive = omega arith; below = omega arith } in
+      let madeLast : Made old thread (old .head thread + size - 1) = record { since = omega arith; below = omega arith } in
+      let madeNext : Made old thread (suc (old .head thread + size - 1)) = record { since = omega arith; below = omega arith } in
       let boundary : Boundary old thread (old .head thread + size - 1) =
       ⊎-elim
       (λ isBegin. inr (rw last isBegin))

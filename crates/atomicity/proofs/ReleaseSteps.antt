@@ -16,7 +16,7 @@ use Rattle.log.specs.declared.SyncCount.{SyncCount}
 use Rattle.atomicity.specs.History.{Fed, stepAt}
 use Rattle.atomicity.proofs.Logged.{Entries, Is, Grows, Keeps, Appends, still-is, kept-is, is-cases, new-is}
 use Rattle.atomicity.proofs.Ordered.{accepted-inside}
-use Rattle.atomicity.proofs.Places.{thenFed, lastOf, length-then, step-before, step-new, last-before}
+use Rattle.atomicity.proofs.Places.{thenFed, lastOf, length-then, step-before, step-new, last-was}
 
 -- the step is an accepted LOGREL (5) of the lock
 pub record LogsRelease (fed : Fed) (lock : ℕ) : Type 0 where
@@ -47,25 +47,25 @@ releases-fail fed lock test fails = releases-agree fed lock test false fails ∙
 -- the LOGREL step at this place made the RELEASE entry at which it stands
 pub record StandsAt (history : List Fed) (entries : Entries) (place lock : ℕ) : Type 0 where
   pub count : SyncCount
-  pub isEntry : Is entries (stepAt history place .thread) (lastOf history place) (Release lock count)
-  pub isTime : entries .time (stepAt history place .thread) (lastOf history place) ≡ place
+  pub isEntry : Is entries (stepAt history place .thread) (lastOf (entries .before) history place) (Release lock count)
+  pub isTime : entries .time (stepAt history place .thread) (lastOf (entries .before) history place) ≡ place
 
 -- the step at this place is the LOGREL of the lock that made this entry
-pub record MadeAt (history : List Fed) (thread number lock place : ℕ) : Type 0 where
+pub record MadeAt (given : ℕ → ℕ) (history : List Fed) (thread number lock place : ℕ) : Type 0 where
   pub isStep : LogsRelease (stepAt history place) lock
   pub isThread : stepAt history place .thread ≡ thread
-  pub isLast : lastOf history place ≡ number
+  pub isLast : lastOf given history place ≡ number
 
 -- each accepted LOGREL made a RELEASE entry, and each RELEASE entry was made by one, at its time
 pub record ReleaseSteps (history : List Fed) (entries : Entries) : Type 0 where
   pub stands : {place lock : ℕ} → LogsRelease (stepAt history place) lock → StandsAt history entries place lock
-  pub made : {thread number lock : ℕ} {count : SyncCount} → Is entries thread number (Release lock count) → MadeAt history thread number lock (entries .time thread number)
+  pub made : {thread number lock : ℕ} {count : SyncCount} → Is entries thread number (Release lock count) → MadeAt (entries .before) history thread number lock (entries .time thread number)
 
 -- what the step itself stands at, and which entries it made
 pub record NewSteps (history : List Fed) (fed : Fed) (old new : Entries) : Type 0 where
   pub grows : Grows old new (length history)
   pub standsNew : {lock : ℕ} → LogsRelease fed lock → StandsAt (thenFed history fed) new (length history) lock
-  pub madeNew : {thread number lock : ℕ} {count : SyncCount} → Is new thread number (Release lock count) → Is old thread number (Release lock count) ⊎ MadeAt (thenFed history fed) thread number lock (new .time thread number)
+  pub madeNew : {thread number lock : ℕ} {count : SyncCount} → Is new thread number (Release lock count) → Is old thread number (Release lock count) ⊎ MadeAt (new .before) (thenFed history fed) thread number lock (new .time thread number)
 
 -- the step at a place of the longer history was there, or is the new one
 old-or-new : (history : List Fed) (fed : Fed) {place : ℕ} → stepAt (thenFed history fed) place .accepted ≡ true → (place < length history) ⊎ (place ≡ length history)
@@ -80,18 +80,18 @@ module _ {history : List Fed} {fed : Fed} {old new : Entries} (step : NewSteps h
       let found = steps .stands (rw (step-before history fed before) at releases) in
       record {
         count = found .count;
-        isEntry = rw (last-before history fed before, step-before history fed before) (still-is (step .grows) (found .isEntry));
-        isTime = rw (last-before history fed before, step-before history fed before) (step .grows .timeSame _ _ (found .isEntry .made) ∙ found .isTime);
+        isEntry = rw (last-was history fed (step .grows) before, step-before history fed before) (still-is (step .grows) (found .isEntry));
+        isTime = rw (last-was history fed (step .grows) before, step-before history fed before) (step .grows .timeSame _ _ (found .isEntry .made) ∙ found .isTime);
       }
 
-  made-before : {thread number lock : ℕ} {count : SyncCount} → Is old thread number (Release lock count) → MadeAt (thenFed history fed) thread number lock (new .time thread number)
+  made-before : {thread number lock : ℕ} {count : SyncCount} → Is old thread number (Release lock count) → MadeAt (new .before) (thenFed history fed) thread number lock (new .time thread number)
   made-before {thread} {number} is =
       let found = steps .made is in
       let before = accepted-inside history (old .time thread number) (found .isStep .isAccepted) in
       rw (step .grows .timeSame thread number (is .made)) (record {
         isStep = rw (step-before history fed before) (found .isStep);
         isThread = ap (λ (s : Fed). s .thread) (step-before history fed before) ∙ found .isThread;
-        isLast = last-before history fed before ∙ found .isLast;
+        isLast = last-was history fed (step .grows) before ∙ found .isLast;
       })
 
   pub steps-then : ReleaseSteps (thenFed history fed) new
@@ -120,7 +120,7 @@ other-entry appends noLogrel noRelease = record {
 }
 
 -- a LOGREL, which makes its RELEASE entry
-pub new-release : {history : List Fed} {fed : Fed} {old new : Entries} {thread lock : ℕ} {count : SyncCount} → Appends old new (length history) thread (Release lock count) → LogsRelease fed lock → fed .thread ≡ thread → lastOf (thenFed history fed) (length history) ≡ old .next thread → NewSteps history fed old new
+pub new-release : {history : List Fed} {fed : Fed} {old new : Entries} {thread lock : ℕ} {count : SyncCount} → Appends old new (length history) thread (Release lock count) → LogsRelease fed lock → fed .thread ≡ thread → lastOf (new .before) (thenFed history fed) (length history) ≡ old .next thread → NewSteps history fed old new
 new-release {history} {fed} {old} {new} {thread} {lock} {count} appends releases isThread isLast = record {
   grows = appends .grows;
   standsNew = λ {lock = other} same.

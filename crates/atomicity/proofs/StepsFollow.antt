@@ -17,21 +17,22 @@ use Rattle.log.specs.declared.Event.the-variants.{Empty, Store, Acquire, Releas
 use Rattle.log.specs.declared.Log.{Log}
 use Rattle.machine.specs.Clocks.{clockAt}
 use Rattle.machine.specs.Effects.{loadEffect, logEffect, storeEffect, acquireEffect, logReleaseEffect, releaseEffect, flushEffect, flushLogEffect, fenceEffect, pruneEffect, countPruned, evictEffect, evictLogEffect, effect}
-use Rattle.machine.specs.Holds.{threadCount, lockCount, logOf, lockOf, clockOf, withLog, noClock, startClocks, freshMachine}
+use Rattle.machine.specs.Holds.{threadCount, lockCount, logOf, lockOf, clockOf, withLog, noClock, startClocks}
 use Rattle.machine.specs.Kinds.{Kind, LOAD, LOG, STORE, ACQUIRE, LOGREL, RELEASE, FLUSH, FLUSHLOG, FENCE, PRUNE, EVICT, EVICTLOG}
 use Rattle.machine.specs.Refusals.{logTests, acquireTests, logReleaseTests, releaseTests, stateTests}
 use Rattle.machine.specs.Runs.{Step, after}
 use Rattle.machine.specs.declared.Holder.the-variants.{Nobody, Thread}
 use Rattle.machine.specs.declared.Machine.{Machine}
 use Rattle.machine.proofs.StepLaws.{testsOf}
-use Rattle.machine.proofs.Sizes.{Sized, effect-sized, fresh-sized}
-use Rattle.atomicity.specs.History.{Fed, stepAt, machineAfter, historyAfter}
+use Rattle.machine.proofs.Beginnings.{machineWith, AllIdle, freshLogs, fresh-all, on-start}
+use Rattle.machine.proofs.Sizes.{Sized, effect-sized, begin-sized}
+use Rattle.atomicity.specs.History.{Fed, stepAt, startMachine, machineAfter, historyAfter}
 use Rattle.atomicity.proofs.Epochs.{releases, epochAt}
 use Rattle.atomicity.proofs.Ordered.{andThen, own-reaches, old-or-next, step-stays, step-next}
 use Rattle.atomicity.proofs.ClockInvariant.{clocked-start, clocked-refused, clocked-plain, clocked-acquire, clocked-release}
 use Rattle.atomicity.proofs.AccessInvariant.{Took, AccessOf, accessed-start, accessed-refused, accessed-plain, accessed-load, accessed-log}
-use Rattle.atomicity.proofs.Holding.{releasing-lock, held-by, Held, held-start, held-log, held-lock, held-acquire, held-release}
-use Rattle.atomicity.proofs.HistoryRuns.{kindNumber, tookStep, thread-in-range, place-in-range, state-fails, start-keeps}
+use Rattle.atomicity.proofs.Holding.{releasing-lock, held-by, Held, begin-held, held-log, held-lock, held-acquire, held-release}
+use Rattle.atomicity.proofs.HistoryRuns.{kindNumber, tookStep, thread-in-range, place-in-range, state-fails, run-keeps}
 use Rattle.atomicity.proofs.Follows.{Follows}
 use Rattle.atomicity.proofs.RaceTests.{log-ordered}
 
@@ -293,16 +294,23 @@ module _ (machine : Machine) (history : List Fed) (follows : Follows machine his
     held = follows .held;
   }
 
-pub fresh-follows : (cells : List ℕ) → Follows (freshMachine cells) []
-unfolding freshMachine
-fresh-follows cells = record {
-  sized = fresh-sized cells;
+pub begin-follows : (cells : List ℕ) (logs : List Log) → AllIdle logs → Follows (machineWith cells logs) []
+begin-follows cells logs all = record {
+  sized = begin-sized cells logs all;
   inRange = λ place isAccepted. absurd (false≢true isAccepted);
   clocked = clocked-start;
   accessed = accessed-start;
-  held = held-start startClocks (replicate lockCount noClock);
+  held = begin-held logs all startClocks (replicate lockCount noClock);
 }
 
 -- every list of steps from a start call
 pub start-follows : (words : List ℕ) (steps : List Step) → Follows (machineAfter words steps) (historyAfter words steps)
-start-follows = start-keeps Follows fresh-follows refused-follows effect-follows
+start-follows words steps =
+    run-keeps
+    Follows
+    refused-follows
+    effect-follows
+    (startMachine words)
+    []
+    (on-start (λ machine. Follows machine []) (λ cells isLength. begin-follows cells freshLogs fresh-all) words)
+    steps

@@ -1,17 +1,17 @@
 -- When entries were made: in a thread in their order, before now, each STORE entry by a LOG step of its thread and cell. And what entries can
 -- say: a cell below 128 or a lock below 8.
-use Prim.Native.Nat.{ℕ, suc, _≤_, _<_}
+use Prim.Native.Nat.{ℕ, _<_}
 use native.Mathlib.Omega.{arith}
-use mathlib.Core.Path.{_≡_, refl, sym, ap, _∙_, subst}
-use mathlib.Core.Bool.{Bool, true}
+use mathlib.Core.Path.{_≡_, sym, ap, _∙_}
+use mathlib.Core.Bool.{true}
 use mathlib.Core.List.{List}
-use mathlib.Core.Logic.{_⊎_, inl, inr, ⊎-elim}
+use mathlib.Core.Logic.{_⊎_, ⊎-elim}
 use lib.ListN.{length}
 use Rattle.log.specs.declared.Event.{Event}
-use Rattle.log.specs.declared.Event.the-variants.{Empty, Store, Acquire, Release}
+use Rattle.log.specs.declared.Event.the-variants.{Store, Acquire, Release}
 use Rattle.log.specs.declared.SyncCount.{SyncCount}
 use Rattle.atomicity.specs.History.{Fed, stepAt}
-use Rattle.atomicity.proofs.Logged.{Entries, Made, Is, Grows, Keeps, Appends, made-kept, kept-is, made-cases, is-cases}
+use Rattle.atomicity.proofs.Logged.{Entries, Made, Is, Keeps, Appends, made-kept, kept-is, made-cases, is-cases}
 use Rattle.atomicity.proofs.Places.{lastOf, thenFed, length-then, step-before, step-new, last-before}
 
 -- what an entry can say
@@ -21,27 +21,27 @@ pub data Formed : Event → Type 0 where
   aRelease : {lock : ℕ} {count : SyncCount} → lock < 8 → Formed (Release lock count)
 
 -- the step at this place is the accepted LOG of the cell that made the entry
-pub record LogStep (history : List Fed) (thread number cell place : ℕ) : Type 0 where
+pub record LogStep (given : ℕ → ℕ) (history : List Fed) (thread number cell place : ℕ) : Type 0 where
   pub isAccepted : stepAt history place .accepted ≡ true
   pub isKind : stepAt history place .kind ≡ 2
   pub isThread : stepAt history place .thread ≡ thread
   pub isCell : stepAt history place .place ≡ cell
-  pub isLast : lastOf history place ≡ number
+  pub isLast : lastOf given history place ≡ number
 
 pub record TimesHold (history : List Fed) (entries : Entries) : Type 0 where
   pub past : (thread number : ℕ) → Made entries thread number → entries .time thread number < length history
   pub later : (thread number next : ℕ) → Made entries thread number → Made entries thread next → number < next → entries .time thread number < entries .time thread next
   pub formed : (thread number : ℕ) → Made entries thread number → Formed (entries .event thread number)
-  pub logStep : {thread number cell old : ℕ} → Is entries thread number (Store cell old) → LogStep history thread number cell (entries .time thread number)
+  pub logStep : {thread number cell old : ℕ} → Is entries thread number (Store cell old) → LogStep (entries .before) history thread number cell (entries .time thread number)
 
 -- a LOG step stays one as the history grows
-log-step-then : {history : List Fed} {thread number cell place : ℕ} (fed : Fed) → place < length history → LogStep history thread number cell place → LogStep (thenFed history fed) thread number cell place
-log-step-then {history} {thread} {number} {cell} {place} fed before step = record {
+log-step-then : {given : ℕ → ℕ} {history : List Fed} {thread number cell place : ℕ} (fed : Fed) → place < length history → LogStep given history thread number cell place → LogStep given (thenFed history fed) thread number cell place
+log-step-then {given} {history} {thread} {number} {cell} {place} fed before step = record {
   isAccepted = ap (λ (s : Fed). s .accepted) (step-before history fed before) ∙ step .isAccepted;
   isKind = ap (λ (s : Fed). s .kind) (step-before history fed before) ∙ step .isKind;
   isThread = ap (λ (s : Fed). s .thread) (step-before history fed before) ∙ step .isThread;
   isCell = ap (λ (s : Fed). s .place) (step-before history fed before) ∙ step .isCell;
-  isLast = last-before history fed before ∙ step .isLast;
+  isLast = last-before history fed given before ∙ step .isLast;
 }
 
 pub times-keep : {history : List Fed} {old new : Entries} (fed : Fed) → Keeps old new (length history) → TimesHold history old → TimesHold (thenFed history fed) new
@@ -57,7 +57,7 @@ times-keep {history} {old} {new} fed keeps holds = record {
   formed = λ thread number made. let was = made-kept keeps made in rw (keeps .grows .saysSame thread number was) (holds .formed thread number was);
   logStep = λ {thread} {number} is.
       let was = kept-is keeps is in
-      rw (keeps .grows .timeSame thread number (was .made)) (log-step-then fed (holds .past thread number (was .made)) (holds .logStep was));
+      rw (keeps .grows .beforeSame, keeps .grows .timeSame thread number (was .made)) (log-step-then fed (holds .past thread number (was .made)) (holds .logStep was));
 }
 
 -- what a step that makes an entry is
@@ -67,7 +67,7 @@ pub record MakesEntry (history : List Fed) (fed : Fed) (old new : Entries) (thre
   pub isLog : {cell value : ℕ} → event ≡ Store cell value → (fed .kind ≡ 2) × (fed .place ≡ cell)
   pub isAccepted : fed .accepted ≡ true
   pub isThread : fed .thread ≡ thread
-  pub isLast : lastOf (thenFed history fed) (length history) ≡ old .next thread
+  pub isLast : lastOf (new .before) (thenFed history fed) (length history) ≡ old .next thread
 
 module _ {history : List Fed} {fed : Fed} {old new : Entries} {thread : ℕ} {event : Event} (step : MakesEntry history fed old new thread event) (holds : TimesHold history old) where
   old-time : (other number : ℕ) → Made old other number → new .time other number < length history
@@ -104,7 +104,7 @@ module _ {history : List Fed} {fed : Fed} {old new : Entries} {thread : ℕ} {ev
         (made-cases (step .appends) made);
     logStep = λ {thread = other} {number} {cell} {old = value} is.
         ⊎-elim
-        (λ was. rw (step .appends .grows .timeSame other number (was .made)) (log-step-then fed (holds .past other number (was .made)) (holds .logStep was)))
+        (λ was. rw (step .appends .grows .beforeSame, step .appends .grows .timeSame other number (was .made)) (log-step-then fed (holds .past other number (was .made)) (holds .logStep was)))
         (λ at.
         let logged = step .isLog (sym (at .2)) in
         rw (new-time {other = other} {number = number} (at .0, at .1)) (record {

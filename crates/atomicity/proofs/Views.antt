@@ -1,9 +1,9 @@
 -- The machine's logs as the entries that the concerns speak of, and what each change of a log is in that view.
-use Prim.Native.Nat.{ℕ, suc, _+_, _≤_, _<_}
+use Prim.Native.Nat.{ℕ, suc, _≤_, _<_}
 use native.Mathlib.Decide.{ℕ-discrete}
 use native.Mathlib.Omega.{arith}
 use mathlib.Core.Path.{_≡_, refl, sym, ap, _∙_, subst}
-use mathlib.Core.Bool.{Bool, true, false, cond}
+use mathlib.Core.Bool.{cond}
 use mathlib.Core.List.{List}
 use mathlib.Core.Logic.{by-cases}
 use lib.ListN.{length, getD, set}
@@ -14,9 +14,9 @@ use Rattle.log.specs.Entries.{appendOf}
 use Rattle.log.specs.declared.Event.{Event}
 use Rattle.log.specs.declared.Log.{Log}
 use Rattle.log.proofs.LogInvariant.{withEvent, withEvent-here, withEvent-other}
-use Rattle.log.proofs.LogNumbers.{Numbers, append-numbers}
+use Rattle.log.proofs.LogNumbers.{append-numbers}
 use Rattle.machine.specs.Holds.{noLog}
-use Rattle.atomicity.proofs.Logged.{Entries, Made, Grows, Keeps, Appends}
+use Rattle.atomicity.proofs.Logged.{Entries, Keeps, Appends}
 
 -- the function with another value at one number
 abbrev pub setAt : {A : Type 0} → (ℕ → A) → ℕ → A → ℕ → A
@@ -33,10 +33,11 @@ abbrev pub logAt : List Log → ℕ → Log
 logAt logs thread = getD logs thread noLog
 
 -- the logs' numbers, beside what the entries said and when they were made
-abbrev pub viewOf : List Log → (ℕ → ℕ → Event) → (ℕ → ℕ → ℕ) → Entries
-viewOf logs event time = record {
+abbrev pub viewOf : (ℕ → ℕ) → List Log → (ℕ → ℕ → Event) → (ℕ → ℕ → ℕ) → Entries
+viewOf before logs event time = record {
   event = event;
   time = time;
+  before = before;
   next = λ thread. logAt logs thread .tail .next .0;
   head = λ thread. logAt logs thread .head .0;
   durable = λ thread. logAt logs thread .tail .durable .0;
@@ -57,14 +58,15 @@ by-log P logs thread log inRange self others other =
     (λ differs. rw (log-other logs thread other log differs) (others other differs))
 
 -- a change of a log that makes no entry
-pub keep-view : (logs : List Log) (event : ℕ → ℕ → Event) (time : ℕ → ℕ → ℕ) (now thread : ℕ) (log : Log) → thread < length logs → log .tail .next .0 ≡ logAt logs thread .tail .next .0 → logAt logs thread .head .0 ≤ log .head .0 → logAt logs thread .tail .durable .0 ≤ log .tail .durable .0 → Keeps (viewOf logs event time) (viewOf (set logs thread log) event time) now
-keep-view logs event time now thread log inRange sameNext headGrows durableGrows =
+pub keep-view : (before : ℕ → ℕ) (logs : List Log) (event : ℕ → ℕ → Event) (time : ℕ → ℕ → ℕ) (now thread : ℕ) (log : Log) → thread < length logs → log .tail .next .0 ≡ logAt logs thread .tail .next .0 → logAt logs thread .head .0 ≤ log .head .0 → logAt logs thread .tail .durable .0 ≤ log .tail .durable .0 → Keeps (viewOf before logs event time) (viewOf before (set logs thread log) event time) now
+keep-view before logs event time now thread log inRange sameNext headGrows durableGrows =
     let next-kept = by-log (λ other log. log .tail .next .0 ≡ logAt logs other .tail .next .0) logs thread log inRange sameNext (λ other differs. refl) in
     record {
       grows = record {
-        still = λ other number made. record { positive = made .positive; below = rw (next-kept other) (made .below) };
+        still = λ other number made. record { since = made .since; below = rw (next-kept other) (made .below) };
         saysSame = λ other number made. refl;
         timeSame = λ other number made. refl;
+        beforeSame = refl;
         headGrows = by-log (λ other log. logAt logs other .head .0 ≤ log .head .0) logs thread log inRange headGrows (λ other differs. omega arith);
         durableGrows = by-log (λ other log. logAt logs other .tail .durable .0 ≤ log .tail .durable .0) logs thread log inRange durableGrows (λ other differs. omega arith);
       };
@@ -78,6 +80,7 @@ same-view entries now = record {
     still = λ other number made. made;
     saysSame = λ other number made. refl;
     timeSame = λ other number made. refl;
+    beforeSame = refl;
     headGrows = λ other. omega arith;
     durableGrows = λ other. omega arith;
   };
@@ -91,7 +94,7 @@ eventsThen logs event thread said = setAt event thread (withEvent (event thread)
 abbrev pub timesThen : List Log → (ℕ → ℕ → ℕ) → ℕ → ℕ → ℕ → ℕ → ℕ
 timesThen logs time thread now = setAt time thread (setAt (time thread) (logAt logs thread .tail .next .0) now)
 
-module _ (logs : List Log) (event : ℕ → ℕ → Event) (time : ℕ → ℕ → ℕ) (now thread : ℕ) (said : Event) (inRange : thread < length logs) where
+module _ (before : ℕ → ℕ) (logs : List Log) (event : ℕ → ℕ → Event) (time : ℕ → ℕ → ℕ) (now thread : ℕ) (said : Event) (inRange : thread < length logs) where
   at-self : eventsThen logs event thread said thread ≡ withEvent (event thread) (logAt logs thread .tail .next .0) said
   at-self = setAt-here event thread (withEvent (event thread) (logAt logs thread .tail .next .0) said)
 
@@ -104,7 +107,7 @@ module _ (logs : List Log) (event : ℕ → ℕ → Event) (time : ℕ → ℕ �
       by-cases
       (ℕ-discrete other thread)
       (λ same.
-      let before : number < logAt logs thread .tail .next .0 = rw same at older in
+      let earlier : number < logAt logs thread .tail .next .0 = rw same at older in
       let differs : number ≡ logAt logs thread .tail .next .0 → ⊥ = λ equal. omega arith in
       rw same (ap (λ (f : ℕ → Event). f number) at-self ∙ withEvent-other (event thread) (logAt logs thread .tail .next .0) said number differs))
       (λ differs. ap (λ (f : ℕ → Event). f number) (setAt-other event thread (withEvent (event thread) (logAt logs thread .tail .next .0) said) other differs))
@@ -114,14 +117,14 @@ module _ (logs : List Log) (event : ℕ → ℕ → Event) (time : ℕ → ℕ �
       by-cases
       (ℕ-discrete other thread)
       (λ same.
-      let before : number < logAt logs thread .tail .next .0 = rw same at older in
+      let earlier : number < logAt logs thread .tail .next .0 = rw same at older in
       let differs : number ≡ logAt logs thread .tail .next .0 → ⊥ = λ equal. omega arith in
       rw same (ap (λ (f : ℕ → ℕ). f number) time-self ∙ setAt-other (time thread) (logAt logs thread .tail .next .0) now number differs))
       (λ differs. ap (λ (f : ℕ → ℕ). f number) (setAt-other time thread (setAt (time thread) (logAt logs thread .tail .next .0) now) other differs))
 
   -- an append is one entry more
-  pub append-view : 1 ≤ logAt logs thread .tail .next .0 → Appends (viewOf logs event time) (viewOf (set logs thread (appendOf (logAt logs thread) said)) (eventsThen logs event thread said) (timesThen logs time thread now)) now thread said
-  append-view positive =
+  pub append-view : before thread < logAt logs thread .tail .next .0 → Appends (viewOf before logs event time) (viewOf before (set logs thread (appendOf (logAt logs thread) said)) (eventsThen logs event thread said) (timesThen logs time thread now)) now thread said
+  append-view since =
       let log = appendOf (logAt logs thread) said in
       let numbers = append-numbers (logAt logs thread) said in
       let here = log-same logs thread log inRange in
@@ -131,9 +134,10 @@ module _ (logs : List Log) (event : ℕ → ℕ → Event) (time : ℕ → ℕ �
       let durable-same = by-log (λ other log. log .tail .durable .0 ≡ logAt logs other .tail .durable .0) logs thread log inRange (numbers .durableIs) (λ other differs. refl) in
       record {
         grows = record {
-          still = λ other number made. let grew = next-grows other in let below = made .below in record { positive = made .positive; below = omega arith };
+          still = λ other number made. let grew = next-grows other in let below = made .below in record { since = made .since; below = omega arith };
           saysSame = λ other number made. older-says other number (made .below);
           timeSame = λ other number made. older-time other number (made .below);
+          beforeSame = refl;
           headGrows = λ other. let same = head-same other in omega arith;
           durableGrows = λ other. let same = durable-same other in omega arith;
         };
@@ -141,7 +145,7 @@ module _ (logs : List Log) (event : ℕ → ℕ → Event) (time : ℕ → ℕ �
         nextOther = λ other differs. ap (λ (log : Log). log .tail .next .0) (log-other logs thread other log differs);
         saysNew = ap (λ (f : ℕ → Event). f (logAt logs thread .tail .next .0)) at-self ∙ withEvent-here (event thread) (logAt logs thread .tail .next .0) said;
         timeNew = ap (λ (f : ℕ → ℕ). f (logAt logs thread .tail .next .0)) time-self ∙ setAt-here (time thread) (logAt logs thread .tail .next .0) now;
-        nextPositive = positive;
+        nextSince = since;
         headSame = head-same;
         durableSame = durable-same;
       }

@@ -1,53 +1,50 @@
 -- The machine, its history and the reference model that was fed it: all concerns together, kept by every step.
-use Prim.Native.Nat.{ℕ, suc, _+_, _-_, _≤_, _<_}
+use Prim.Native.Nat.{ℕ, suc, _-_, _<_}
 use native.Mathlib.Decide.{decLt, ℕ-discrete}
 use native.Mathlib.Omega.{arith}
-use mathlib.Core.Path.{_≡_, refl, sym, ap, _∙_, subst}
-use mathlib.Core.Bool.{Bool, true, false, cond, and-false, true≢false}
+use mathlib.Core.Path.{_≡_, refl, sym, ap, _∙_}
+use mathlib.Core.Bool.{true, false, and-false, true≢false}
 use lib.Dec.{eqb}
 use borrow.Author.Tests.{eq-eqb}
-use mathlib.Core.List.{List, [], _∷_, _++_}
-use mathlib.Core.Logic.{_⊎_, inl, inr, ⊎-elim, by-cases}
+use mathlib.Core.List.{List, [], _∷_}
+use mathlib.Core.Logic.{by-cases}
 use mathlib.Core.Option.{Option, none, some}
-use lib.ListN.{length, getD, set, take}
+use lib.ListN.{length, take}
 use lib.Seq.{take-append-le, take-append-seam}
 use Rattle.answer.proofs.RefusalLaws.{AllFail}
-use Rattle.cache.specs.Cache.{storeOf}
-use Rattle.log.specs.Entries.{appendOf, flushLogOf, endReleaseOf, fenceLogOf, evictSlotOf, pruneOf}
+use Rattle.log.specs.Entries.{flushLogOf, endReleaseOf, fenceLogOf, evictSlotOf}
 use Rattle.ring.specs.Ring.{flushedTail, fencedTail, releasedTail}
-use Rattle.log.specs.Regions.{oldestRegion, isRelease}
+use Rattle.log.specs.Regions.{isRelease}
 use Rattle.log.specs.declared.Event.{Event}
 use Rattle.machine.specs.Clocks.{loadedOf, loggedCellOf}
 use Rattle.machine.specs.Effects.{loadEffect, logEffect, storeEffect, acquireEffect, logReleaseEffect, releaseEffect, flushEffect, flushLogEffect, fenceEffect, evictEffect, evictLogEffect, effect}
-use Rattle.machine.specs.Holds.{lockOf}
 use Rattle.machine.specs.Kinds.{Kind, LOAD, LOG, STORE, ACQUIRE, LOGREL, RELEASE, FLUSH, FLUSHLOG, FENCE, PRUNE, EVICT, EVICTLOG}
 use Rattle.machine.specs.declared.Machine.{Machine}
 use Rattle.machine.proofs.Asked.{log-asked, acquire-asked, log-release-asked, release-asked, flush-log-asked, fence-asked, evict-log-asked, store-asked, prune-asked}
 use Rattle.machine.proofs.StepLaws.{testsOf}
-use Rattle.reference.specs.Reference.{Book, emptyBook, openUnless, feed, feedAccepted, joins, openOf, commitOldest, feedLog, feedStore, feedAcquire, feedLogRelease}
-use Rattle.atomicity.specs.History.{Fed, stepAt, fedBook, bookBefore, Joined}
-use Rattle.atomicity.proofs.Logged.{Entries, Made, Is, Grows, Keeps, Appends, new-made}
+use Rattle.reference.specs.Reference.{Book, emptyBook, openUnless, feed, feedAccepted, joins, openOf}
+use Rattle.atomicity.specs.History.{Fed, stepAt, fedBook, Joined}
+use Rattle.atomicity.proofs.Logged.{Entries, Made, Grows, new-made}
 use Rattle.atomicity.proofs.BookLaws.{store-writes, store-regions}
-use Rattle.atomicity.proofs.Cells.{Contents, CellsHold, Version}
 use Rattle.atomicity.proofs.Follows.{Follows}
 use Rattle.atomicity.proofs.HistoryRuns.{tookStep, kindNumber}
 use Rattle.atomicity.proofs.Ordered.{accepted-inside}
-use Rattle.atomicity.proofs.Places.{PlacesHold, thenFed, madeBy, lastOf, makes, made-new, step-before, step-new, last-before, length-then}
+use Rattle.atomicity.proofs.Places.{thenFed, madeBy, lastOf, makes, made-new, step-before, step-new, last-was, length-then}
 use Rattle.atomicity.proofs.Regions.{RegionsHold, regions-keep, joinedPlace, open-current, unended-current, joins-store}
 use Rattle.atomicity.proofs.RegionsAppend.{AppendRegions, append-homes, withHome, regions-log, regions-acquire, regions-release, joins-log-home, joins-acquire-home, joins-release-home}
 use Rattle.atomicity.proofs.RegionsPrune.{regions-prune}
 use Rattle.atomicity.proofs.StepsFollow.{effect-follows, refused-follows}
-use Rattle.atomicity.proofs.Views.{logAt, viewOf}
-use Rattle.atomicity.proofs.World.{Ghost, World, entriesOf, contentsOf}
+use Rattle.atomicity.proofs.Views.{logAt}
+use Rattle.atomicity.proofs.World.{Beginning, Ghost, World, entriesOf, contentsOf}
 use Rattle.atomicity.proofs.WorldQuiet.{EntriesStay, log-stays, logs-stay, world-refused, world-load, world-flush, world-evict, world-flush-log, world-fence, world-evict-log, stored-entry, stores-cell, storedVersions, world-store}
 use Rattle.atomicity.proofs.WorldAppends.{appends, acquireEntry, releaseEntry, storeEntry, ghostThen, world-acquire, world-log-release, log-appends, logs-cell, loggedVersions, world-log}
 use Rattle.atomicity.proofs.WorldRelease.{world-release}
-use Rattle.atomicity.proofs.WorldPrune.{prune-regions, prune-logs, prune-cache, world-prune}
+use Rattle.atomicity.proofs.WorldPrune.{prune-regions, prune-logs, world-prune}
 use Rattle.atomicity.proofs.Writes.{WritesHold, writes-keep, writes-log, writes-store}
 
 -- the reference model that was fed a history
-abbrev pub bookOf : List ℕ → List Fed → Book
-bookOf start history = fedBook (emptyBook start) history
+abbrev pub bookOf : Beginning → List Fed → Book
+bookOf start history = fedBook (emptyBook (start .cells)) history
 
 -- fed one step more
 pub book-then : (book : Book) (history : List Fed) (fed : Fed) → fedBook book (thenFed history fed) ≡ feed (fedBook book history) (fed .kind) (fed .thread) (fed .place) (fed .value) (fed .accepted)
@@ -56,23 +53,23 @@ book-then book [] fed = refl
 book-then book (first ∷ history) fed = book-then (feed book (first .kind) (first .thread) (first .place) (first .value) (first .accepted)) history fed
 
 -- each step that joined a region stands at an entry of that region
-abbrev pub JoinsHold : List ℕ → List Fed → Entries → (ℕ → ℕ → ℕ) → Type 0
-JoinsHold start history entries home = (place region : ℕ) → Joined start history place region → Made entries (stepAt history place .thread) (lastOf history place) × (home (stepAt history place .thread) (lastOf history place) ≡ region)
+abbrev pub JoinsHold : Beginning → List Fed → Entries → (ℕ → ℕ → ℕ) → Type 0
+JoinsHold start history entries home = (place region : ℕ) → Joined (start .cells) history place region → Made entries (stepAt history place .thread) (lastOf (entries .before) history place) × (home (stepAt history place .thread) (lastOf (entries .before) history place) ≡ region)
 
-pub record Whole (start : List ℕ) (machine : Machine) (history : List Fed) : Type 0 where
+pub record Whole (start : Beginning) (machine : Machine) (history : List Fed) : Type 0 where
   pub ghost : Ghost
   pub home : ℕ → ℕ → ℕ
   pub world : World start machine history ghost
   pub follows : Follows machine history
-  pub regions : RegionsHold (entriesOf machine ghost) (bookOf start history .regions) home
+  pub regions : RegionsHold (entriesOf start machine ghost) (bookOf start history .regions) home
   pub writes : WritesHold home (contentsOf start (machine .cache)) (ghost .versions) (bookOf start history .writes)
-  pub joined : JoinsHold start history (entriesOf machine ghost) home
+  pub joined : JoinsHold start history (entriesOf start machine ghost) home
 
 -- the region that the step itself joins
-abbrev pub JoinsNew : List ℕ → List Fed → Fed → Entries → (ℕ → ℕ → ℕ) → Type 0
-JoinsNew start history fed entries home = (region : ℕ) → fed .accepted ≡ true → joins (bookOf start history) (fed .kind) (fed .thread) ≡ some region → Made entries (fed .thread) (madeBy (thenFed history fed) (fed .thread) (suc (length history))) × (home (fed .thread) (madeBy (thenFed history fed) (fed .thread) (suc (length history))) ≡ region)
+abbrev pub JoinsNew : Beginning → List Fed → Fed → Entries → (ℕ → ℕ → ℕ) → Type 0
+JoinsNew start history fed entries home = (region : ℕ) → fed .accepted ≡ true → joins (bookOf start history) (fed .kind) (fed .thread) ≡ some region → Made entries (fed .thread) (madeBy (entries .before) (thenFed history fed) (fed .thread) (suc (length history))) × (home (fed .thread) (madeBy (entries .before) (thenFed history fed) (fed .thread) (suc (length history))) ≡ region)
 
-module _ {start : List ℕ} {history : List Fed} {old new : Entries} (home after : ℕ → ℕ → ℕ) (fed : Fed) where
+module _ (start : Beginning) {history : List Fed} {old new : Entries} (home after : ℕ → ℕ → ℕ) (fed : Fed) where
   -- the steps before join what they joined, and the new one joins its own
   pub joins-then : Grows old new (length history) → ((thread number : ℕ) → Made old thread number → after thread number ≡ home thread number) → JoinsHold start history old home → JoinsNew start history fed new after → JoinsHold start (thenFed history fed) new after
   joins-then grows homes holds joinsNew place region joined =
@@ -81,12 +78,12 @@ module _ {start : List ℕ} {history : List Fed} {old new : Entries} (home after
       (λ (before : place < length history).
       let taken : take place (thenFed history fed) ≡ take place history = take-append-le place history (fed ∷ []) (omega arith) in
       let same = step-before history fed before in
-      let was : Joined start history place region = record {
+      let was : Joined (start .cells) history place region = record {
         isAccepted = sym (ap (λ (s : Fed). s .accepted) same) ∙ joined .isAccepted;
         joinedRegion = rw (taken, same) at (joined .joinedRegion);
       } in
       let found = holds place region was in
-      rw (last-before history fed before, same) (grows .still (stepAt history place .thread) (lastOf history place) (found .0), homes (stepAt history place .thread) (lastOf history place) (found .0) ∙ found .1))
+      rw (last-was history fed grows before, same) (grows .still (stepAt history place .thread) (lastOf (old .before) history place) (found .0), homes (stepAt history place .thread) (lastOf (old .before) history place) (found .0) ∙ found .1))
       (λ notBefore.
       by-cases
       (ℕ-discrete place (length history))
@@ -111,7 +108,7 @@ open-writes (some place) book thread = refl
 never-joins : {A : Type 0} {found : Option ℕ} {region : ℕ} → found ≡ none → found ≡ some region → A
 never-joins isNone isSome = let never : _≡_ {A = ℕ} 0 1 = cc in absurd (omega arith)
 
-module _ {start : List ℕ} {machine : Machine} {history : List Fed} (whole : Whole start machine history) where
+module _ {start : Beginning} {machine : Machine} {history : List Fed} (whole : Whole start machine history) where
   abbrev book : Book
   book = bookOf start history
 
@@ -119,9 +116,9 @@ module _ {start : List ℕ} {machine : Machine} {history : List Fed} (whole : Wh
   ghost = whole .ghost
 
   -- a step that makes no entry, moves no head, and that the reference model passes over
-  whole-quiet : (after : Machine) (fed : Fed) → World start after (thenFed history fed) ghost → Follows after (thenFed history fed) → EntriesStay machine after ghost (length history) → feed book (fed .kind) (fed .thread) (fed .place) (fed .value) (fed .accepted) ≡ book → (fed .accepted ≡ true → joins book (fed .kind) (fed .thread) ≡ none) → Whole start after (thenFed history fed)
+  whole-quiet : (after : Machine) (fed : Fed) → World start after (thenFed history fed) ghost → Follows after (thenFed history fed) → EntriesStay start machine after ghost (length history) → feed book (fed .kind) (fed .thread) (fed .place) (fed .value) (fed .accepted) ≡ book → (fed .accepted ≡ true → joins book (fed .kind) (fed .thread) ≡ none) → Whole start after (thenFed history fed)
   whole-quiet after fed world follows stay passes joinsNone =
-      let same = book-then (emptyBook start) history fed ∙ passes in
+      let same = book-then (emptyBook (start .cells)) history fed ∙ passes in
       record {
         ghost = ghost;
         home = whole .home;
@@ -129,7 +126,7 @@ module _ {start : List ℕ} {machine : Machine} {history : List Fed} (whole : Wh
         follows = follows;
         regions = rw same (regions-keep (stay .keeps) (stay .headSame) (whole .regions));
         writes = rw same (record { tracks = whole .writes .tracks });
-        joined = joins-then (whole .home) (whole .home) fed (stay .keeps .grows) (λ thread number made. refl) (whole .joined) (λ region isAccepted isSome. never-joins (joinsNone isAccepted) isSome);
+        joined = joins-then start (whole .home) (whole .home) fed (stay .keeps .grows) (λ thread number made. refl) (whole .joined) (λ region isAccepted isSome. never-joins (joinsNone isAccepted) isSome);
       }
 
   pub whole-refused : (fed : Fed) → fed .accepted ≡ false → Whole start machine (thenFed history fed)
@@ -140,7 +137,7 @@ module _ {start : List ℕ} {machine : Machine} {history : List Fed} (whole : Wh
       fed
       (world-refused (whole .world) fed isRefused)
       (refused-follows machine history (whole .follows) fed isRefused)
-      (logs-stay machine machine ghost (length history) refl)
+      (logs-stay start machine machine ghost (length history) refl)
       (rw isRefused)
       (λ isAccepted. absurd (true≢false (sym isAccepted ∙ isRefused)))
 
@@ -160,7 +157,7 @@ module _ {start : List ℕ} {machine : Machine} {history : List Fed} (whole : Wh
         (tookStep LOAD thread place value)
         (world-load (whole .world) thread place value fails)
         (effect-follows machine history (whole .follows) LOAD thread place value fails)
-        (logs-stay machine _ ghost (length history) refl)
+        (logs-stay start machine _ ghost (length history) refl)
         refl
         (λ isAccepted. refl)
 
@@ -172,7 +169,7 @@ module _ {start : List ℕ} {machine : Machine} {history : List Fed} (whole : Wh
         (tookStep FLUSH thread place value)
         (world-flush (whole .world) thread place value fails)
         (effect-follows machine history (whole .follows) FLUSH thread place value fails)
-        (logs-stay machine _ ghost (length history) refl)
+        (logs-stay start machine _ ghost (length history) refl)
         refl
         (λ isAccepted. refl)
 
@@ -184,7 +181,7 @@ module _ {start : List ℕ} {machine : Machine} {history : List Fed} (whole : Wh
         (tookStep EVICT thread place value)
         (world-evict (whole .world) thread place value fails)
         (effect-follows machine history (whole .follows) EVICT thread place value fails)
-        (logs-stay machine _ ghost (length history) refl)
+        (logs-stay start machine _ ghost (length history) refl)
         refl
         (λ isAccepted. refl)
 
@@ -196,7 +193,7 @@ module _ {start : List ℕ} {machine : Machine} {history : List Fed} (whole : Wh
         (tookStep FLUSHLOG thread place value)
         (world-flush-log (whole .world) thread place value fails)
         (effect-follows machine history (whole .follows) FLUSHLOG thread place value fails)
-        (log-stays machine _ ghost (length history) thread (flushLogOf (logAt (machine .logs) thread)) refl (inLogs (flush-log-asked machine thread place value fails)) refl refl (omega arith))
+        (log-stays start machine _ ghost (length history) thread (flushLogOf (logAt (machine .logs) thread)) refl (inLogs (flush-log-asked machine thread place value fails)) refl refl (omega arith))
         refl
         (λ isAccepted. refl)
 
@@ -209,7 +206,7 @@ module _ {start : List ℕ} {machine : Machine} {history : List Fed} (whole : Wh
         (tookStep FENCE thread place value)
         (world-fence (whole .world) thread place value fails)
         (effect-follows machine history (whole .follows) FENCE thread place value fails)
-        (log-stays machine _ ghost (length history) thread (fenceLogOf (logAt (machine .logs) thread)) refl (inLogs inRange) refl refl (whole .world .logs thread inRange .durableFlushed))
+        (log-stays start machine _ ghost (length history) thread (fenceLogOf (logAt (machine .logs) thread)) refl (inLogs inRange) refl refl (whole .world .logs thread inRange .durableFlushed))
         refl
         (λ isAccepted. refl)
 
@@ -221,7 +218,7 @@ module _ {start : List ℕ} {machine : Machine} {history : List Fed} (whole : Wh
         (tookStep EVICTLOG thread place value)
         (world-evict-log (whole .world) thread place value fails)
         (effect-follows machine history (whole .follows) EVICTLOG thread place value fails)
-        (log-stays machine _ ghost (length history) thread (evictSlotOf (logAt (machine .logs) thread) place) refl (inLogs (evict-log-asked machine thread place value fails .inThread)) refl refl (omega arith))
+        (log-stays start machine _ ghost (length history) thread (evictSlotOf (logAt (machine .logs) thread) place) refl (inLogs (evict-log-asked machine thread place value fails .inThread)) refl refl (omega arith))
         refl
         (λ isAccepted. refl)
 
@@ -233,7 +230,7 @@ module _ {start : List ℕ} {machine : Machine} {history : List Fed} (whole : Wh
         (tookStep RELEASE thread place value)
         (world-release (whole .world) thread place value fails)
         (effect-follows machine history (whole .follows) RELEASE thread place value fails)
-        (log-stays machine _ ghost (length history) thread (endReleaseOf (logAt (machine .logs) thread)) refl (inLogs (release-asked machine thread place value fails .inThread)) refl refl (omega arith))
+        (log-stays start machine _ ghost (length history) thread (endReleaseOf (logAt (machine .logs) thread)) refl (inLogs (release-asked machine thread place value fails .inThread)) refl refl (omega arith))
         refl
         (λ isAccepted. refl)
 
@@ -243,7 +240,7 @@ module _ {start : List ℕ} {machine : Machine} {history : List Fed} (whole : Wh
         let fed = tookStep PRUNE thread place value in
         let asked = prune-asked machine thread place value fails in
         let step = prune-regions (whole .world) thread asked in
-        let same = book-then (emptyBook start) history fed in
+        let same = book-then (emptyBook (start .cells)) history fed in
         record {
           ghost = ghost;
           home = whole .home;
@@ -253,6 +250,7 @@ module _ {start : List ℕ} {machine : Machine} {history : List Fed} (whole : Wh
           writes = rw same (record { tracks = whole .writes .tracks });
           joined =
               joins-then
+              start
               (whole .home)
               (whole .home)
               fed
@@ -268,14 +266,14 @@ module _ {start : List ℕ} {machine : Machine} {history : List Fed} (whole : Wh
         let fed = tookStep STORE thread place value in
         let asked = store-asked machine thread place value fails in
         let found = stored-entry (whole .world) thread place value fails in
-        let stay = logs-stay machine machine ghost (length history) refl in
+        let stay = logs-stay start machine machine ghost (length history) refl in
         let isOpen = open-current book (whole .regions) (found .2) (found .3) in
-        let same = book-then (emptyBook start) history fed in
+        let same = book-then (emptyBook (start .cells)) history fed in
         let notRelease : isRelease (ghost .event thread (found .0)) ≡ false = ap isRelease (found .2 .says) in
         let last = unended-current (whole .regions) (found .2 .made) notRelease (found .3) in
         let counted = whole .world .places .nextIs thread (asked .inThread) in
         let isLast = last .1 .isLast in
-        let atLast : madeBy (thenFed history fed) thread (suc (length history)) ≡ last .0 = made-new history fed thread ∙ rw (and-false (eqb thread thread)) (omega arith) in
+        let atLast : madeBy (start .before) (thenFed history fed) thread (suc (length history)) ≡ last .0 = made-new history fed (start .before) thread ∙ rw (and-false (eqb thread thread)) (omega arith) in
         record {
           ghost = storedVersions (whole .world) thread place value;
           home = whole .home;
@@ -285,6 +283,7 @@ module _ {start : List ℕ} {machine : Machine} {history : List Fed} (whole : Wh
           writes = rw (same, store-writes book thread place value isOpen) (writes-store (stores-cell (whole .world) thread place value fails) (whole .writes));
           joined =
               joins-then
+              start
               (whole .home)
               (whole .home)
               fed
@@ -301,12 +300,13 @@ module _ {start : List ℕ} {machine : Machine} {history : List Fed} (whole : Wh
     newest = logAt (machine .logs) thread .tail .next .0
 
     -- a step that makes an entry joins the region that the entry joins
-    joined-append : (kind : Kind) (new : Entries) (region : ℕ) {event : Event} → makes (tookStep kind thread place value) thread ≡ true → thread < 4 → AppendRegions (entriesOf machine ghost) new (length history) thread event (whole .home) (withHome (whole .home) thread newest region) region → joins book (kindNumber kind) thread ≡ some (withHome (whole .home) thread newest region thread newest) → JoinsHold start (thenFed history (tookStep kind thread place value)) new (withHome (whole .home) thread newest region)
+    joined-append : (kind : Kind) (new : Entries) (region : ℕ) {event : Event} → makes (tookStep kind thread place value) thread ≡ true → thread < 4 → AppendRegions (entriesOf start machine ghost) new (length history) thread event (whole .home) (withHome (whole .home) thread newest region) region → joins book (kindNumber kind) thread ≡ some (withHome (whole .home) thread newest region thread newest) → JoinsHold start (thenFed history (tookStep kind thread place value)) new (withHome (whole .home) thread newest region)
     joined-append kind new region isMade inThread homes joinsIt =
         let fed = tookStep kind thread place value in
         let counted = whole .world .places .nextIs thread inThread in
-        let atNew : madeBy (thenFed history fed) thread (suc (length history)) ≡ newest = made-new history fed thread ∙ rw isMade (omega arith) in
+        let atNew : madeBy (new .before) (thenFed history fed) thread (suc (length history)) ≡ newest = ap (λ (given : ℕ → ℕ). madeBy given (thenFed history fed) thread (suc (length history))) (homes .appends .grows .beforeSame) ∙ (made-new history fed (start .before) thread ∙ rw isMade (omega arith)) in
         joins-then
+        start
         (whole .home)
         (withHome (whole .home) thread newest region)
         fed
@@ -325,7 +325,7 @@ module _ {start : List ℕ} {machine : Machine} {history : List Fed} (whole : Wh
         let appended = log-appends (whole .world) thread place value (whole .follows) fails in
         let region = joinedPlace book thread in
         let homes = append-homes (whole .home) region appended (whole .world .logs thread (asked .inThread) .headNext) in
-        let same = book-then (emptyBook start) history fed in
+        let same = book-then (emptyBook (start .cells)) history fed in
         record {
           ghost = ghostThen (whole .world) thread place value (storeEntry (whole .world) thread place value) (loggedVersions (whole .world) thread place value);
           home = withHome (whole .home) thread newest region;
@@ -344,7 +344,7 @@ module _ {start : List ℕ} {machine : Machine} {history : List Fed} (whole : Wh
         let appended = appends (whole .world) thread (asked .inThread) (acquireEntry (whole .world) thread place value) (asked .room) in
         let region = length (book .regions) in
         let homes = append-homes (whole .home) region appended (whole .world .logs thread (asked .inThread) .headNext) in
-        let same = book-then (emptyBook start) history fed in
+        let same = book-then (emptyBook (start .cells)) history fed in
         record {
           ghost = ghostThen (whole .world) thread place value (acquireEntry (whole .world) thread place value) (ghost .versions);
           home = withHome (whole .home) thread newest region;
@@ -363,7 +363,7 @@ module _ {start : List ℕ} {machine : Machine} {history : List Fed} (whole : Wh
         let appended = appends (whole .world) thread (asked .inThread) (releaseEntry (whole .world) thread place value) (asked .room) in
         let region = joinedPlace book thread in
         let homes = append-homes (whole .home) region appended (whole .world .logs thread (asked .inThread) .headNext) in
-        let same = book-then (emptyBook start) history fed in
+        let same = book-then (emptyBook (start .cells)) history fed in
         record {
           ghost = ghostThen (whole .world) thread place value (releaseEntry (whole .world) thread place value) (ghost .versions);
           home = withHome (whole .home) thread newest region;

@@ -1,18 +1,16 @@
 -- All that holds of a machine, the history that led to it, and what its entries ever said: the concerns together.
 -- What is kept by each step is shown in the files that come after this one.
-use Prim.Native.Nat.{ℕ, suc, _+_, _-_, _≤_, _<_}
+use Prim.Native.Nat.{ℕ, suc, _-_, _<_}
 use native.Mathlib.Omega.{arith}
 use mathlib.Core.Path.{_≡_, refl, sym, ap, _∙_, subst}
-use mathlib.Core.Bool.{Bool, true, false, cond}
-use mathlib.Core.List.{List, [], _∷_}
-use mathlib.Core.Logic.{_⊎_, inl, inr, ⊎-elim}
+use mathlib.Core.Bool.{true, false}
+use mathlib.Core.List.{List}
 use lib.ListN.{length, getD}
 use Rattle.cache.specs.Cache.{cachedAt, persistedAt}
 use Rattle.cache.specs.declared.Cache.{Cache}
 use Rattle.cache.proofs.CacheLaws as CacheLaws
 use Rattle.log.specs.Regions.{isAcquire, isRelease}
 use Rattle.log.specs.declared.Event.{Event}
-use Rattle.log.specs.declared.Log.{Log}
 use Rattle.log.proofs.LogInvariant.{LogHolds}
 use Rattle.machine.specs.Holds.{lockOf}
 use Rattle.machine.specs.declared.Machine.{Machine}
@@ -25,6 +23,11 @@ use Rattle.atomicity.proofs.Places.{PlacesHold, NewPlace, thenFed, plac
 use Rattle.atomicity.proofs.Times.{TimesHold, times-keep}
 use Rattle.atomicity.proofs.Views.{logAt, viewOf}
 
+-- what a list of steps begins with: the cells, and each thread's last LSN given before
+pub record Beginning : Type 0 where
+  pub cells : List ℕ
+  pub before : ℕ → ℕ
+
 -- what no code holds: what each entry said and when it was made, and the versions of each cell
 pub record Ghost : Type 0 where
   pub event : ℕ → ℕ → Event
@@ -32,8 +35,8 @@ pub record Ghost : Type 0 where
   pub versions : ℕ → List Version
 
 -- the machine's entries
-abbrev pub entriesOf : Machine → Ghost → Entries
-entriesOf machine ghost = viewOf (machine .logs) (ghost .event) (ghost .time)
+abbrev pub entriesOf : Beginning → Machine → Ghost → Entries
+entriesOf start machine ghost = viewOf (start .before) (machine .logs) (ghost .event) (ghost .time)
 
 -- the machine's locks
 abbrev pub locksOf : Machine → Locks
@@ -45,30 +48,31 @@ locksOf machine = record {
 }
 
 -- the cells' contents
-abbrev pub contentsOf : List ℕ → Cache → Contents
+abbrev pub contentsOf : Beginning → Cache → Contents
 contentsOf start cache = record {
-  start = λ cell. getD start cell 0;
+  start = λ cell. getD (start .cells) cell 0;
   cached = cachedAt cache;
   persisted = persistedAt cache;
 }
 
 -- the head stands where a region begins: at the start, after a RELEASE, or at an ACQUIRE
 pub data HeadAt (entries : Entries) (thread : ℕ) : Type 0 where
-  at-start : entries .head thread ≡ 1 → HeadAt entries thread
-  after-release : 1 < entries .head thread → isRelease (entries .event thread (entries .head thread - 1)) ≡ true → HeadAt entries thread
+  at-start : entries .head thread ≡ suc (entries .before thread) → HeadAt entries thread
+  after-release : suc (entries .before thread) < entries .head thread → isRelease (entries .event thread (entries .head thread - 1)) ≡ true → HeadAt entries thread
   at-acquire : entries .head thread < entries .next thread → isAcquire (entries .event thread (entries .head thread)) ≡ true → HeadAt entries thread
 
-pub record World (start : List ℕ) (machine : Machine) (history : List Fed) (ghost : Ghost) : Type 0 where
+pub record World (start : Beginning) (machine : Machine) (history : List Fed) (ghost : Ghost) : Type 0 where
   pub sized : Sized machine
   pub logs : (thread : ℕ) → thread < 4 → LogHolds (logAt (machine .logs) thread) (ghost .event thread)
+  pub begins : (thread : ℕ) → thread < 4 → start .before thread < logAt (machine .logs) thread .head .0
   pub cacheSized : CacheLaws.Sized (machine .cache)
   pub durableKept : CacheLaws.DurableKept (machine .cache)
-  pub locks : LocksHold (entriesOf machine ghost) (locksOf machine)
-  pub prunes : PrunesHold (entriesOf machine ghost) (locksOf machine)
-  pub heads : (thread : ℕ) → thread < 4 → HeadAt (entriesOf machine ghost) thread
-  pub cells : CellsHold (entriesOf machine ghost) (contentsOf start (machine .cache)) (ghost .versions)
-  pub places : PlacesHold history (entriesOf machine ghost) (λ lock. lockOf machine lock .count .0)
-  pub times : TimesHold history (entriesOf machine ghost)
+  pub locks : LocksHold (entriesOf start machine ghost) (locksOf machine)
+  pub prunes : PrunesHold (entriesOf start machine ghost) (locksOf machine)
+  pub heads : (thread : ℕ) → thread < 4 → HeadAt (entriesOf start machine ghost) thread
+  pub cells : CellsHold (entriesOf start machine ghost) (contentsOf start (machine .cache)) (ghost .versions)
+  pub places : PlacesHold history (entriesOf start machine ghost) (λ lock. lockOf machine lock .count .0)
+  pub times : TimesHold history (entriesOf start machine ghost)
 
 -- the step makes no entry, and is no RELEASE and no ACQUIRE
 pub record Quiet (fed : Fed) : Type 0 where
@@ -90,12 +94,12 @@ quiet-place quiet keeps same = record {
 
 -- no entry more and the same heads: the head stands where it stood
 pub head-kept : {old new : Entries} {now : ℕ} → Keeps old new now → ((thread : ℕ) → new .head thread ≡ old .head thread) → ((thread number : ℕ) → new .event thread number ≡ old .event thread number) → (thread : ℕ) → HeadAt old thread → HeadAt new thread
-head-kept keeps heads events thread (at-start isFirst) = at-start (heads thread ∙ isFirst)
-head-kept keeps heads events thread (after-release more isRelease) = after-release (rw (heads thread) more) (rw (heads thread, events thread _) isRelease)
+head-kept keeps heads events thread (at-start isFirst) = at-start (heads thread ∙ (isFirst ∙ ap (λ (given : ℕ → ℕ). suc (given thread)) (sym (keeps .grows .beforeSame))))
+head-kept keeps heads events thread (after-release more isRelease) = after-release (rw (heads thread, keeps .grows .beforeSame) more) (rw (heads thread, events thread _) isRelease)
 head-kept keeps heads events thread (at-acquire less isAcquire) = at-acquire (rw (heads thread, keeps .nextSame thread) less) (rw (heads thread, events thread _) isAcquire)
 
 -- what a step that makes no entry and moves no head must show: what it does to the logs, the cache and the locks
-pub record QuietStep (start : List ℕ) (machine after : Machine) (history : List Fed) (fed : Fed) (ghost next : Ghost) : Type 0 where
+pub record QuietStep (start : Beginning) (machine after : Machine) (history : List Fed) (fed : Fed) (ghost next : Ghost) : Type 0 where
   pub quiet : Quiet fed
   pub sameEvent : next .event ≡ ghost .event
   pub sameTime : next .time ≡ ghost .time
@@ -103,19 +107,20 @@ pub record QuietStep (start : List ℕ) (machine after : Machine) (history : Lis
   pub logs : (thread : ℕ) → thread < 4 → LogHolds (logAt (after .logs) thread) (ghost .event thread)
   pub cacheSized : CacheLaws.Sized (after .cache)
   pub durableKept : CacheLaws.DurableKept (after .cache)
-  pub keeps : Keeps (entriesOf machine ghost) (entriesOf after ghost) (length history)
+  pub keeps : Keeps (entriesOf start machine ghost) (entriesOf start after ghost) (length history)
   pub headSame : (thread : ℕ) → logAt (after .logs) thread .head .0 ≡ logAt (machine .logs) thread .head .0
   pub sameLocks : SameLocks (locksOf machine) (locksOf after)
   pub prunedSame : (lock : ℕ) → lockOf after lock .pruned .0 ≡ lockOf machine lock .pruned .0
-  pub cells : CellsHold (entriesOf after ghost) (contentsOf start (after .cache)) (next .versions)
+  pub cells : CellsHold (entriesOf start after ghost) (contentsOf start (after .cache)) (next .versions)
 
-pub world-quiet : {start : List ℕ} {machine after : Machine} {history : List Fed} {fed : Fed} {ghost next : Ghost} → QuietStep start machine after history fed ghost next → World start machine history ghost → World start after (thenFed history fed) next
+pub world-quiet : {start : Beginning} {machine after : Machine} {history : List Fed} {fed : Fed} {ghost next : Ghost} → QuietStep start machine after history fed ghost next → World start machine history ghost → World start after (thenFed history fed) next
 world-quiet {start} {machine} {after} {history} {fed} {ghost} {next} step world =
     let countSame : (lock : ℕ) → lockOf after lock .count .0 ≡ lockOf machine lock .count .0 = step .sameLocks .countSame in
     let same : Ghost = record { event = ghost .event; time = ghost .time; versions = next .versions } in
     let made : World start after (thenFed history fed) same = record {
       sized = step .sized;
       logs = step .logs;
+      begins = λ thread inRange. omega (arith, world .begins thread inRange, step .headSame thread);
       cacheSized = step .cacheSized;
       durableKept = step .durableKept;
       locks = locks-keep (step .keeps) (step .sameLocks) (world .locks);

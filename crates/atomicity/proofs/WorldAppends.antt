@@ -47,17 +47,17 @@ use Rattle.atomicity.proofs.Places.{PlacesHold, thenFed, madeBy, lastOf
 use Rattle.atomicity.proofs.RaceLaw.{log-decides}
 use Rattle.atomicity.proofs.Times.{Formed, aStore, anAcquire, aRelease, times-append}
 use Rattle.atomicity.proofs.Views.{setAt, setAt-here, setAt-other, logAt, viewOf, by-log, log-same, log-other, eventsThen, timesThen, append-view}
-use Rattle.atomicity.proofs.World.{Ghost, World, HeadAt, at-start, after-release, at-acquire, entriesOf, locksOf, contentsOf}
+use Rattle.atomicity.proofs.World.{Beginning, Ghost, World, HeadAt, at-start, after-release, at-acquire, entriesOf, locksOf, contentsOf}
 
 -- an append leaves the head where a region begins
-head-append : {old new : Entries} {now thread : ℕ} {event : Event} → Appends old new now thread event → (other : ℕ) → 1 ≤ old .head other → old .head other ≤ old .next other → HeadAt old other → HeadAt new other
-head-append appends other positive within (at-start isFirst) = at-start (appends .headSame other ∙ isFirst)
-head-append {old} {new} appends other positive within (after-release more ends) =
+head-append : {old new : Entries} {now thread : ℕ} {event : Event} → Appends old new now thread event → (other : ℕ) → old .before other < old .head other → old .head other ≤ old .next other → HeadAt old other → HeadAt new other
+head-append appends other since within (at-start isFirst) = at-start (appends .headSame other ∙ (isFirst ∙ ap (λ (given : ℕ → ℕ). suc (given other)) (sym (appends .grows .beforeSame))))
+head-append {old} {new} appends other since within (after-release more ends) =
     after-release
-    (rw (appends .headSame other) more)
-    (rw (appends .headSame other, appends .grows .saysSame other (old .head other - 1) (record { positive = omega arith; below = omega arith })) ends)
-head-append {old} {new} appends other positive within (at-acquire less begins) =
-    let made : Made old other (old .head other) = record { positive = positive; below = less } in
+    (rw (appends .headSame other, appends .grows .beforeSame) more)
+    (rw (appends .headSame other, appends .grows .saysSame other (old .head other - 1) (record { since = omega arith; below = omega arith })) ends)
+head-append {old} {new} appends other since within (at-acquire less begins) =
+    let made : Made old other (old .head other) = record { since = since; below = less } in
     let still = appends .grows .still other (old .head other) made in
     at-acquire
     (rw (appends .headSame other) (still .below))
@@ -93,7 +93,7 @@ record AppendStep (machine : Machine) (thread kind place : ℕ) (event : Event) 
   closes : {lock : ℕ} → closedBy Nothing (closesOf event) ≡ Lock lock → event ≡ Release lock (lockOf machine lock .count)
   lockKept : (lock : ℕ) → LockKept thread event lock (lockOf machine lock) (getD locks lock noLock)
 
-module _ {start : List ℕ} {machine : Machine} {history : List Fed} {ghost : Ghost} (world : World start machine history ghost) (thread : ℕ) (inRange : thread < 4) (event : Event) (room : AllFail (appendTests (logAt (machine .logs) thread))) where
+module _ {start : Beginning} {machine : Machine} {history : List Fed} {ghost : Ghost} (world : World start machine history ghost) (thread : ℕ) (inRange : thread < 4) (event : Event) (room : AllFail (appendTests (logAt (machine .logs) thread))) where
   abbrev log : Log
   log = logAt (machine .logs) thread
 
@@ -114,10 +114,10 @@ module _ {start : List ℕ} {machine : Machine} {history : List Fed} {ghost : Gh
   timeThen = timesThen (machine .logs) (ghost .time) thread (length history)
 
   abbrev pub entriesThen : Entries
-  entriesThen = viewOf logsThen eventThen timeThen
+  entriesThen = viewOf (start .before) logsThen eventThen timeThen
 
-  pub appends : Appends (entriesOf machine ghost) entriesThen (length history) thread event
-  appends = let positive = holds .headPositive in let within = holds .headNext in append-view (machine .logs) (ghost .event) (ghost .time) (length history) thread event inLogs (omega arith)
+  pub appends : Appends (entriesOf start machine ghost) entriesThen (length history) thread event
+  appends = let since = world .begins thread inRange in let within = holds .headNext in append-view (start .before) (machine .logs) (ghost .event) (ghost .time) (length history) thread event inLogs (omega arith)
 
   pub logs-append : (other : ℕ) → other < 4 → LogHolds (logAt logsThen other) (eventThen other)
   logs-append =
@@ -133,12 +133,12 @@ module _ {start : List ℕ} {machine : Machine} {history : List Fed} {ghost : Gh
   pub heads-append : (other : ℕ) → other < 4 → HeadAt entriesThen other
   heads-append other within =
       let bounds = world .logs other within in
-      head-append appends other (bounds .headPositive) (bounds .headNext) (world .heads other within)
+      head-append appends other (world .begins other within) (bounds .headNext) (world .heads other within)
 
   -- the new step stands at the new entry
-  pub last-new : (fed : Fed) → makes fed thread ≡ true → madeBy (thenFed history fed) thread (suc (length history)) ≡ log .tail .next .0
+  pub last-new : (fed : Fed) → makes fed thread ≡ true → madeBy (start .before) (thenFed history fed) thread (suc (length history)) ≡ log .tail .next .0
   last-new fed isMade =
-      made-new history fed thread ∙
+      made-new history fed (start .before) thread ∙
       (let counted = world .places .nextIs thread inRange in
       rw isMade (omega arith))
 
@@ -159,7 +159,7 @@ module _ {start : List ℕ} {machine : Machine} {history : List Fed} {ghost : Gh
     is-made = rw (eq-eqb thread thread refl) (step .isKind)
 
     -- the step's last LSN is the new entry's
-    last-append : lastOf (thenFed history fed) (length history) ≡ log .tail .next .0
+    last-append : lastOf (start .before) (thenFed history fed) (length history) ≡ log .tail .next .0
     last-append = rw (step-new history fed) (last-new fed is-made)
 
     -- the next LSN of each thread counts the entry that the step makes of it
@@ -199,7 +199,7 @@ module _ {start : List ℕ} {machine : Machine} {history : List Fed} {ghost : Gh
     -- a step that makes an entry keeps what holds of a machine and its history, given the sizes and the cells after it
     world-append : {clocks lockClocks : List Clock} {accesses : Accesses} {versions : ℕ → List Version} → Sized (machineThen clocks lockClocks accesses) → CellsHold entriesThen (contentsOf start (machine .cache)) versions → World start (machineThen clocks lockClocks accesses) (thenFed history fed) (record { event = eventThen; time = timeThen; versions = versions })
     world-append {clocks} {lockClocks} {accesses} sized cells =
-        let appendLocks : AppendLocks (entriesOf machine ghost) entriesThen (length history) thread event (locksOf machine) (locksOf (machineThen clocks lockClocks accesses)) = record {
+        let appendLocks : AppendLocks (entriesOf start machine ghost) entriesThen (length history) thread event (locksOf machine) (locksOf (machineThen clocks lockClocks accesses)) = record {
           appends = appends;
           past = world .times .past;
           headNext = holds .headNext;
@@ -218,6 +218,7 @@ module _ {start : List ℕ} {machine : Machine} {history : List Fed} {ghost : Gh
         record {
           sized = sized;
           logs = logs-append;
+          begins = λ other within. let same = appends .headSame other in let was = world .begins other within in omega arith;
           cacheSized = world .cacheSized;
           durableKept = world .durableKept;
           locks = locks-append appendLocks (world .locks);
@@ -253,7 +254,7 @@ by-lock P locks lock state inRange self others other =
     (λ same. subst (λ (l : ℕ). P l (getD (set locks lock state) l noLock)) (sym same) (rw (lock-same locks lock state inRange) self))
     (λ differs. rw (lock-other locks lock other state differs) (others other differs))
 
-module _ {start : List ℕ} {machine : Machine} {history : List Fed} {ghost : Ghost} (world : World start machine history ghost) (thread place value : ℕ) where
+module _ {start : Beginning} {machine : Machine} {history : List Fed} {ghost : Ghost} (world : World start machine history ghost) (thread place value : ℕ) where
   -- what entries said and when, after the thread made one more
   abbrev pub ghostThen : Event → (ℕ → List Version) → Ghost
   ghostThen event versions = record {
@@ -327,7 +328,7 @@ module _ {start : List ℕ} {machine : Machine} {history : List Fed} {ghost : Gh
       (record { thread = thread; lsn = logAt (machine .logs) thread .tail .next .0; after = cachedAt (machine .cache) place } ∷ ghost .versions place)
 
   abbrev pub loggedEntries : Entries
-  loggedEntries = viewOf (set (machine .logs) thread (appendOf (logAt (machine .logs) thread) storeEntry)) (ghostThen storeEntry loggedVersions .event) (ghostThen storeEntry loggedVersions .time)
+  loggedEntries = viewOf (start .before) (set (machine .logs) thread (appendOf (logAt (machine .logs) thread) storeEntry)) (ghostThen storeEntry loggedVersions .event) (ghostThen storeEntry loggedVersions .time)
 
   -- no entry is empty
   formed-not-empty : {event : Event} → Formed event → event ≡ Empty → ⊥
@@ -336,24 +337,24 @@ module _ {start : List ℕ} {machine : Machine} {history : List Fed} {ghost : Gh
   formed-not-empty (aRelease inRange) isEmpty = omega (arith, ap kindOf isEmpty)
 
   -- an entry of a cell before the head has the region's boundary at the head after it
-  pruned-not-current : {number cell old : ℕ} → thread < 4 → Is (entriesOf machine ghost) thread number (Store cell old) → NoBoundaryAfter (entriesOf machine ghost) thread number → number < logAt (machine .logs) thread .head .0 → ⊥
+  pruned-not-current : {number cell old : ℕ} → thread < 4 → Is (entriesOf start machine ghost) thread number (Store cell old) → NoBoundaryAfter (entriesOf start machine ghost) thread number → number < logAt (machine .logs) thread .head .0 → ⊥
   pruned-not-current {number} inRange is none pruned = by-head (world .heads thread inRange)
     where
-      by-head : HeadAt (entriesOf machine ghost) thread → ⊥
-      by-head (at-start isFirst) = let positive = is .made .positive in omega arith
+      by-head : HeadAt (entriesOf start machine ghost) thread → ⊥
+      by-head (at-start isFirst) = let since = is .made .since in omega arith
       by-head (after-release more ends) =
           let head = logAt (machine .logs) thread .head .0 in
           let within = world .logs thread inRange .headNext in
           by-cases
           (decLt number (head - 1))
-          (λ before. true≢false (sym ends ∙ none (head - 1) before (record { positive = omega arith; below = omega arith }) .1))
+          (λ before. true≢false (sym ends ∙ none (head - 1) before (record { since = omega arith; below = omega arith }) .1))
           (λ notBefore.
           let same : number ≡ head - 1 = omega (arith, notBefore) in
           let says : ghost .event thread (head - 1) ≡ Store _ _ = rw same at (is .says) in
           true≢false (sym ends ∙ ap isRelease says))
       by-head (at-acquire less begins) =
-          let positive = is .made .positive in
-          true≢false (sym begins ∙ none (logAt (machine .logs) thread .head .0) pruned (record { positive = omega arith; below = less }) .0)
+          let since = is .made .since in
+          true≢false (sym begins ∙ none (logAt (machine .logs) thread .head .0) pruned (record { since = omega arith; below = less }) .0)
 
   -- the history, its places and the cell after a LOG; its value is 0
   module _ (follows : Follows machine history) (fails : AllFail (testsOf machine LOG thread place value)) where
@@ -374,11 +375,11 @@ module _ {start : List ℕ} {machine : Machine} {history : List Fed} {ghost : Gh
       lockKept = λ lock. same-lock;
     }
 
-    pub log-appends : Appends (entriesOf machine ghost) loggedEntries (length history) thread storeEntry
+    pub log-appends : Appends (entriesOf start machine ghost) loggedEntries (length history) thread storeEntry
     log-appends = appends world thread (asked .inThread) storeEntry (asked .room)
 
     -- the cell's newest version leads to the new one: it is the thread's own, or it would race
-    newest-ordered : {versions : List Version} {first : ℕ} → Chain (entriesOf machine ghost) first place versions → NewestLeads loggedEntries thread (logAt (machine .logs) thread .tail .next .0) versions
+    newest-ordered : {versions : List Version} {first : ℕ} → Chain (entriesOf start machine ghost) first place versions → NewestLeads loggedEntries thread (logAt (machine .logs) thread .tail .next .0) versions
     newest-ordered unlogged = none-older
     newest-ordered (linked {version} link chain) =
         let fed = tookStep LOG thread place 0 in
@@ -390,7 +391,7 @@ module _ {start : List ℕ} {machine : Machine} {history : List Fed} {ghost : Gh
         let new : stepAt (thenFed history fed) (length history) ≡ fed = step-new history fed in
         let wasThread : stepAt (thenFed history fed) at .thread ≡ version .thread = ap (λ (s : Fed). s .thread) old ∙ made .isThread in
         let nowThread : stepAt (thenFed history fed) (length history) .thread ≡ thread = ap (λ (s : Fed). s .thread) new in
-        let wasLast = last-before history fed past ∙ made .isLast in
+        let wasLast = last-before history fed (start .before) past ∙ made .isLast in
         let isLast = last-append world thread (asked .inThread) storeEntry (asked .room) 0 log-step in
         let places = places-append world thread (asked .inThread) storeEntry (asked .room) 0 log-step in
         leads-to
@@ -415,24 +416,24 @@ module _ {start : List ℕ} {machine : Machine} {history : List Fed} {ghost : Gh
         rw (wasLast, isLast, wasThread, nowThread) at (before-leads places before)))
 
     -- the cell has no entry in the thread's current region
-    not-current : {number old : ℕ} → Is (entriesOf machine ghost) thread number (Store place old) → NoBoundaryAfter (entriesOf machine ghost) thread number → ⊥
+    not-current : {number old : ℕ} → Is (entriesOf start machine ghost) thread number (Store place old) → NoBoundaryAfter (entriesOf start machine ghost) thread number → ⊥
     not-current {number} {old} is none =
         let holdsLog = world .logs thread (asked .inThread) in
         by-cases
         (decLt number (logAt (machine .logs) thread .head .0))
         (λ pruned. pruned-not-current (asked .inThread) is none pruned)
         (λ live.
-        let ended = logged-nowhere (logAt (machine .logs) thread) (ghost .event thread) holdsLog place (λ other from to. let positive = holdsLog .headPositive in formed-not-empty (world .times .formed thread other (record { positive = omega arith; below = to }))) (asked .notLogged) number old (omega (arith, live)) (is .made .below) (is .says) in
-        let positive = is .made .positive in
+        let ended = logged-nowhere (logAt (machine .logs) thread) (ghost .event thread) holdsLog place (λ other from to. let since = world .begins thread (asked .inThread) in formed-not-empty (world .times .formed thread other (record { since = omega arith; below = to }))) (asked .notLogged) number old (omega (arith, live)) (is .made .below) (is .says) in
+        let since = is .made .since in
         let from = ended .laterFrom in
-        let found = none (ended .later) from (record { positive = omega arith; below = ended .laterTo }) in
+        let found = none (ended .later) from (record { since = omega arith; below = ended .laterTo }) in
         ⊎-elim
         (λ begins. true≢false (sym begins ∙ found .0))
         (λ ends. true≢false (sym ends ∙ found .1))
         (ended .laterEnds))
 
     -- what LOG does to the cell
-    pub logs-cell : LogsCell (entriesOf machine ghost) loggedEntries (length history) thread place (contentsOf start (machine .cache)) (ghost .versions) loggedVersions
+    pub logs-cell : LogsCell (entriesOf start machine ghost) loggedEntries (length history) thread place (contentsOf start (machine .cache)) (ghost .versions) loggedVersions
     logs-cell =
         let version : Version = record { thread = thread; lsn = logAt (machine .logs) thread .tail .next .0; after = cachedAt (machine .cache) place } in
         record {

@@ -4,7 +4,7 @@ use native.Mathlib.Decide.{decLt, ℕ-discrete}
 use native.Mathlib.Omega.{arith}
 use mathlib.Core.Path.{_≡_, refl, sym, ap, _∙_, subst}
 use mathlib.Core.Bool.{Bool, true, false, cond, not, _&&_, and-false, true≢false}
-use mathlib.Core.List.{List, [], _∷_}
+use mathlib.Core.List.{List}
 use mathlib.Core.Logic.{_⊎_, inl, inr, ⊎-elim, by-cases}
 use lib.ListN.{length, getD, set, length-set}
 use lib.Dec.{eqb, ltb}
@@ -30,18 +30,17 @@ use Rattle.machine.specs.Refusals.{awaitsRelease, logsUndurable}
 use Rattle.machine.specs.declared.Lock.{Lock as LockState}
 use Rattle.machine.specs.declared.Machine.{Machine}
 use Rattle.machine.proofs.Asked.{PruneAsked, prune-asked}
-use Rattle.machine.proofs.Sizes.{Sized, withLog-sized, pruned-sized}
 use Rattle.machine.proofs.StepLaws.{testsOf}
 use Rattle.atomicity.specs.History.{Fed}
-use Rattle.atomicity.proofs.Logged.{Entries, Made, Is, IsReleaseOf, IsAcquireOf, Keeps}
-use Rattle.atomicity.proofs.Locks.{Locks, SameLocks, locks-keep, EndsInRelease, PruneLocks, prunes-prune}
-use Rattle.atomicity.proofs.Cells.{Version, Chain, linked, unlogged, In, here, there, CellsHold, PersistCell, made-equal, unchanged, cells-keep, latest}
+use Rattle.atomicity.proofs.Logged.{Entries, Made, Is, IsAcquireOf, Keeps}
+use Rattle.atomicity.proofs.Locks.{SameLocks, locks-keep, EndsInRelease, prunes-prune}
+use Rattle.atomicity.proofs.Cells.{Version, Chain, linked, In, here, there, PersistCell, made-equal, unchanged, cells-keep, latest}
 use Rattle.atomicity.proofs.HistoryRuns.{tookStep}
 use Rattle.atomicity.proofs.Places.{thenFed, places-step}
 use Rattle.atomicity.proofs.RegionsPrune.{PruneRegions}
-use Rattle.atomicity.proofs.Times.{Formed, aStore, anAcquire, aRelease, times-keep}
+use Rattle.atomicity.proofs.Times.{Formed, aRelease, times-keep}
 use Rattle.atomicity.proofs.Views.{logAt, by-log, keep-view, log-same, log-other}
-use Rattle.atomicity.proofs.World.{Ghost, World, HeadAt, at-start, after-release, at-acquire, entriesOf, locksOf, contentsOf, quiet-place}
+use Rattle.atomicity.proofs.World.{Beginning, Ghost, World, HeadAt, at-start, after-release, at-acquire, entriesOf, locksOf, contentsOf, quiet-place}
 use Rattle.atomicity.proofs.WorldAppends.{by-lock}
 
 -- a finished region has an entry after it, or ends in a RELEASE on which the thread is not closing
@@ -83,7 +82,7 @@ in-says {entries} {start} {cell} {thread} {number} (linked {version} {older} lin
 )
 in-says (linked link chain) (there isIn) = in-says chain isIn
 
-module _ {start : List ℕ} {machine : Machine} {history : List Fed} {ghost : Ghost} (world : World start machine history ghost) (thread : ℕ) (asked : PruneAsked machine thread) where
+module _ {start : Beginning} {machine : Machine} {history : List Fed} {ghost : Ghost} (world : World start machine history ghost) (thread : ℕ) (asked : PruneAsked machine thread) where
   abbrev log : Log
   log = logAt (machine .logs) thread
 
@@ -132,9 +131,9 @@ module _ {start : List ℕ} {machine : Machine} {history : List Fed} {ghost : Gh
   unfolding pruneOf
   moved-head = ap (λ (l : Log). l .head .0) moved-log
 
-  pub moved-keeps : Keeps (entriesOf machine ghost) (entriesOf moved ghost) (length history)
+  pub moved-keeps : Keeps (entriesOf start machine ghost) (entriesOf start moved ghost) (length history)
   unfolding pruneOf
-  moved-keeps = keep-view (machine .logs) (ghost .event) (ghost .time) (length history) thread (pruneOf log size) inLogs refl (omega arith) (omega arith)
+  moved-keeps = keep-view (start .before) (machine .logs) (ghost .event) (ghost .time) (length history) thread (pruneOf log size) inLogs refl (omega arith) (omega arith)
 
   head-other : (other : ℕ) → (other ≡ thread → ⊥) → logAt (moved .logs) other .head .0 ≡ logAt (machine .logs) other .head .0
   head-other other differs = ap (λ (l : Log). l .head .0) (log-other (machine .logs) thread other (pruneOf log size) differs)
@@ -147,13 +146,13 @@ module _ {start : List ℕ} {machine : Machine} {history : List Fed} {ghost : Gh
   logs-moved = by-log (λ other l. other < 4 → LogHolds l (ghost .event other)) (machine .logs) thread (pruneOf log size) inLogs (λ _. prune-holds log (ghost .event thread) holds size within-log within-durable) (λ other differs. world .logs other)
 
   -- the head then stands where the next region begins
-  head-moved : HeadAt (entriesOf moved ghost) thread
+  head-moved : HeadAt (entriesOf start moved ghost) thread
   head-moved =
       let head = moved-head in
       let next = moved-keeps .nextSame thread in
-      let positive = holds .headPositive in
+      let since = world .begins thread (asked .inThread) in
       let some-entry = not-empty in
-      let ends-there : isRelease (ghost .event thread (log .head .0 + size - 1)) ≡ true → HeadAt (entriesOf moved ghost) thread = λ ends. after-release (omega arith) (rw head ends) in
+      let ends-there : isRelease (ghost .event thread (log .head .0 + size - 1)) ≡ true → HeadAt (entriesOf start moved ghost) thread = λ ends. after-release (omega arith) (rw head ends) in
       ⊎-elim
       (λ more.
       let below : log .head .0 + size < log .tail .next .0 = omega arith in
@@ -164,23 +163,23 @@ module _ {start : List ℕ} {machine : Machine} {history : List Fed} {ghost : Gh
       (λ last. ends-there (subst (λ (said : Event). isRelease said ≡ true) (live-event log (ghost .event thread) holds (size - 1) (log .head .0 + size - 1) (omega arith) (let within = within-log in omega arith)) (last .1)))
       finished
 
-  heads-moved : (other : ℕ) → other < 4 → HeadAt (entriesOf moved ghost) other
+  heads-moved : (other : ℕ) → other < 4 → HeadAt (entriesOf start moved ghost) other
   heads-moved other inRange =
       by-cases
       (ℕ-discrete other thread)
       (λ same. rw same head-moved)
       (λ differs. stays differs (world .heads other inRange))
     where
-      stays : (other ≡ thread → ⊥) → HeadAt (entriesOf machine ghost) other → HeadAt (entriesOf moved ghost) other
+      stays : (other ≡ thread → ⊥) → HeadAt (entriesOf start machine ghost) other → HeadAt (entriesOf start moved ghost) other
       stays differs (at-start isFirst) = at-start (head-other other differs ∙ isFirst)
       stays differs (after-release more ends) = after-release (rw (head-other other differs) more) (rw (head-other other differs) ends)
       stays differs (at-acquire less begins) = at-acquire (rw (head-other other differs, moved-keeps .nextSame other) less) (rw (head-other other differs) begins)
 
   -- the cells that the region logged are durable
-  cell-moved : (cell : ℕ) → PersistCell (entriesOf machine ghost) (entriesOf moved ghost) (contentsOf start (machine .cache)) (contentsOf start (machine .cache)) (ghost .versions) cell
+  cell-moved : (cell : ℕ) → PersistCell (entriesOf start machine ghost) (entriesOf start moved ghost) (contentsOf start (machine .cache)) (contentsOf start (machine .cache)) (ghost .versions) cell
   cell-moved cell = by-durable (isDurable (machine .cache) cell) refl
     where
-      by-durable : (test : Bool) → isDurable (machine .cache) cell ≡ test → PersistCell (entriesOf machine ghost) (entriesOf moved ghost) (contentsOf start (machine .cache)) (contentsOf start (machine .cache)) (ghost .versions) cell
+      by-durable : (test : Bool) → isDurable (machine .cache) cell ≡ test → PersistCell (entriesOf start machine ghost) (entriesOf start moved ghost) (contentsOf start (machine .cache)) (contentsOf start (machine .cache)) (ghost .versions) cell
       by-durable true durable = made-equal (world .durableKept .kept cell durable)
       by-durable false undurable =
           unchanged refl (λ other number isIn live gone.
@@ -199,14 +198,14 @@ module _ {start : List ℕ} {machine : Machine} {history : List Fed} {ghost : Gh
           (λ differs. let same = head-other other differs in omega arith))
 
   -- an ACQUIRE in the region is its first entry
-  acquire-first : {number lock count : ℕ} → log .head .0 ≤ number → number < log .head .0 + size → IsAcquireOf (entriesOf machine ghost) thread number lock count → number ≡ log .head .0
+  acquire-first : {number lock count : ℕ} → log .head .0 ≤ number → number < log .head .0 + size → IsAcquireOf (entriesOf start machine ghost) thread number lock count → number ≡ log .head .0
   acquire-first {number} from to acquire =
       by-cases
       (decLt (log .head .0) number)
       (λ after. absurd (true≢false (sym (ap isAcquire (acquire .says)) ∙ region .noAcquire number after to)))
       (λ notAfter. omega (arith, notAfter))
 
-  awaited-first : {lock count : ℕ} → IsAcquireOf (entriesOf machine ghost) thread (log .head .0) lock count → count ≤ lockOf machine lock .pruned .0
+  awaited-first : {lock count : ℕ} → IsAcquireOf (entriesOf start machine ghost) thread (log .head .0) lock count → count ≤ lockOf machine lock .pruned .0
   awaited-first {lock} {count} acquire =
       let some-entry = not-empty in
       let said : liveEvent log 0 ≡ Acquire lock (syncCount count) = live-event log (ghost .event thread) holds 0 (log .head .0) (omega arith) (acquire .made .below) ∙ acquire .says in
@@ -220,11 +219,11 @@ module _ {start : List ℕ} {machine : Machine} {history : List Fed} {ghost : Gh
       finished
 
   -- what PRUNE does to the thread's regions
-  pub prune-regions : PruneRegions (entriesOf machine ghost) (entriesOf moved ghost) (length history) thread size
+  pub prune-regions : PruneRegions (entriesOf start machine ghost) (entriesOf start moved ghost) (length history) thread size
   prune-regions = record {
     keeps = moved-keeps;
     notEmpty = not-empty;
-    headPositive = holds .headPositive;
+    headSince = world .begins thread (asked .inThread);
     headMore = moved-head;
     headOther = head-other;
     within = within-log;
@@ -238,8 +237,8 @@ module _ {start : List ℕ} {machine : Machine} {history : List Fed} {ghost : Gh
         finished;
   }
 
-  last-made : Made (entriesOf machine ghost) thread (log .head .0 + size - 1)
-  last-made = let positive = holds .headPositive in let some-entry = not-empty in let within = within-log in record { positive = omega arith; below = omega arith }
+  last-made : Made (entriesOf start machine ghost) thread (log .head .0 + size - 1)
+  last-made = let since = world .begins thread (asked .inThread) in let some-entry = not-empty in let within = within-log in record { since = omega arith; below = omega arith }
 
   -- the machine with the head moved, and these locks
   abbrev withLocks : List LockState → Machine
@@ -257,7 +256,7 @@ module _ {start : List ℕ} {machine : Machine} {history : List Fed} {ghost : Gh
     sized : length locks ≡ 8
     holderSame : (lock : ℕ) → getD locks lock noLock .holder ≡ lockOf machine lock .holder
     countSame : (lock : ℕ) → getD locks lock noLock .count .0 ≡ lockOf machine lock .count .0
-    cases : ((lock count : ℕ) × EndsInRelease (entriesOf machine ghost) thread (log .head .0 + size - 1) lock count (locksOf machine) (locksOf (withLocks locks))) ⊎ ((lock : ℕ) → getD locks lock noLock .pruned .0 ≡ lockOf machine lock .pruned .0)
+    cases : ((lock count : ℕ) × EndsInRelease (entriesOf start machine ghost) thread (log .head .0 + size - 1) lock count (locksOf machine) (locksOf (withLocks locks))) ⊎ ((lock : ℕ) → getD locks lock noLock .pruned .0 ≡ lockOf machine lock .pruned .0)
 
   prune-world : (place value : ℕ) (locks : List LockState) → PrunedLocks locks → World start (withLocks locks) (thenFed history (tookStep PRUNE thread place value)) ghost
   prune-world place value locks pruned =
@@ -267,6 +266,7 @@ module _ {start : List ℕ} {machine : Machine} {history : List Fed} {ghost : Gh
         countSame = pruned .countSame;
       } in
       record {
+        begins = λ other inRange. let more = moved-keeps .grows .headGrows other in let was = world .begins other inRange in omega arith;
         sized = record {
           logs = simp length-set (world .sized .logs);
           clocks = world .sized .clocks;
@@ -332,7 +332,7 @@ module _ {start : List ℕ} {machine : Machine} {history : List Fed} {ghost : Gh
   one-pruned : (lock : ℕ) (count : SyncCount) → liveEvent log (size - 1) ≡ Release lock count → PrunedLocks (set (machine .locks) lock (onePruned lock))
   one-pruned lock count said =
       let some-entry = not-empty in
-      let positive = holds .headPositive in
+      let since = world .begins thread (asked .inThread) in
       let within = within-log in
       let says : ghost .event thread (log .head .0 + size - 1) ≡ Release lock count = sym (live-event log (ghost .event thread) holds (size - 1) (log .head .0 + size - 1) (omega arith) (omega arith)) ∙ said in
       let inRange : lock < 8 = release-formed (subst Formed says (world .times .formed thread (log .head .0 + size - 1) last-made)) in
@@ -358,7 +358,7 @@ module _ {start : List ℕ} {machine : Machine} {history : List Fed} {ghost : Gh
   by-last place value (Acquire lock count) said = prune-world place value (machine .locks) same-pruned
   by-last place value (Release lock count) said = prune-world place value (set (machine .locks) lock (onePruned lock)) (one-pruned lock count said)
 
-pub world-prune : {start : List ℕ} {machine : Machine} {history : List Fed} {ghost : Ghost} → World start machine history ghost → (thread place value : ℕ) → AllFail (testsOf machine PRUNE thread place value) → World start (effect machine PRUNE thread place value .machine) (thenFed history (tookStep PRUNE thread place value)) ghost
+pub world-prune : {start : Beginning} {machine : Machine} {history : List Fed} {ghost : Ghost} → World start machine history ghost → (thread place value : ℕ) → AllFail (testsOf machine PRUNE thread place value) → World start (effect machine PRUNE thread place value .machine) (thenFed history (tookStep PRUNE thread place value)) ghost
 unfolding effect pruneEffect
 world-prune {machine} world thread place value fails =
     by-last

@@ -1,13 +1,12 @@
 -- The steps that make no entry and move no head keep what holds of a machine and its history: refused steps, LOAD, STORE, FLUSH, FLUSHLOG,
 -- FENCE, EVICT and EVICTLOG.
-use Prim.Native.Nat.{ℕ, suc, _+_, _-_, _≤_, _<_}
-use native.Mathlib.Decide.{ℕ-discrete}
+use Prim.Native.Nat.{ℕ, _-_, _≤_, _<_}
 use native.Mathlib.Omega.{arith}
-use mathlib.Core.Path.{_≡_, refl, sym, ap, _∙_, subst}
+use mathlib.Core.Path.{_≡_, refl, sym, _∙_}
 use mathlib.Core.Bool.{Bool, true, false, cond, _||_, and-false, true≢false}
 use mathlib.Core.List.{List}
-use mathlib.Core.Logic.{_⊎_, inl, inr, ⊎-elim, by-cases}
-use lib.ListN.{length, getD, set}
+use mathlib.Core.Logic.{_⊎_, inl, inr, ⊎-elim}
+use lib.ListN.{length, set}
 use lib.Seq.{getD-set-same, getD-set-other}
 use lib.Dec.{eqb}
 use Rattle.answer.proofs.RefusalLaws.{AllFail}
@@ -19,8 +18,7 @@ use Rattle.ring.specs.Ring.{flushedTail, fencedTail}
 use Rattle.log.specs.declared.Event.the-variants.{Store}
 use Rattle.log.specs.declared.Log.{Log}
 use Rattle.log.proofs.LogInvariant.{LogHolds, flush-holds, fence-holds, evict-holds}
-use Rattle.log.proofs.LogNumbers.{Numbers, flush-numbers, fence-numbers, evict-numbers}
-use Rattle.log.proofs.LoggedLaws.{LoggedAt, logged-at}
+use Rattle.log.proofs.LoggedLaws.{logged-at}
 use Rattle.machine.specs.Clocks.{loadedOf}
 use Rattle.machine.specs.Effects.{loadEffect, storeEffect, flushEffect, flushLogEffect, fenceEffect, evictEffect, evictLogEffect, effect}
 use Rattle.machine.specs.Holds.{withLog, withCache, withAccesses}
@@ -31,13 +29,13 @@ use Rattle.machine.proofs.Asked.{load-asked, store-asked, flush-asked, flush-lo
 use Rattle.machine.proofs.Sizes.{Sized, effect-sized}
 use Rattle.machine.proofs.StepLaws.{testsOf}
 use Rattle.atomicity.specs.History.{Fed}
-use Rattle.atomicity.proofs.Logged.{Entries, Made, Is, Keeps}
+use Rattle.atomicity.proofs.Logged.{Is, Keeps}
 use Rattle.atomicity.proofs.Locks.{SameLocks}
-use Rattle.atomicity.proofs.Cells.{Version, Contents, CellsHold, NoBoundaryAfter, PersistCell, made-equal, unchanged, cells-keep, restored, StoresCell, cells-store}
+use Rattle.atomicity.proofs.Cells.{CellsHold, NoBoundaryAfter, made-equal, unchanged, cells-keep, restored, StoresCell, cells-store}
 use Rattle.atomicity.proofs.HistoryRuns.{tookStep}
-use Rattle.atomicity.proofs.Places.{thenFed, makes}
-use Rattle.atomicity.proofs.Views.{setAt, setAt-here, setAt-other, logAt, by-log, keep-view, same-view, log-same}
-use Rattle.atomicity.proofs.World.{Ghost, World, Quiet, QuietStep, entriesOf, locksOf, contentsOf, world-quiet}
+use Rattle.atomicity.proofs.Places.{thenFed}
+use Rattle.atomicity.proofs.Views.{setAt, setAt-here, setAt-other, logAt, by-log, keep-view, same-view}
+use Rattle.atomicity.proofs.World.{Beginning, Ghost, World, Quiet, entriesOf, locksOf, contentsOf, world-quiet}
 
 -- a refused step is quiet
 refused-quiet : (fed : Fed) → fed .accepted ≡ false → Quiet fed
@@ -58,30 +56,30 @@ quiet-step kind thread place value noEntry noRelease noAcquire inThread = record
 }
 
 -- entries are only kept, and so are the heads
-pub record EntriesStay (machine after : Machine) (ghost : Ghost) (now : ℕ) : Type 0 where
-  pub keeps : Keeps (entriesOf machine ghost) (entriesOf after ghost) now
+pub record EntriesStay (start : Beginning) (machine after : Machine) (ghost : Ghost) (now : ℕ) : Type 0 where
+  pub keeps : Keeps (entriesOf start machine ghost) (entriesOf start after ghost) now
   pub headSame : (thread : ℕ) → logAt (after .logs) thread .head .0 ≡ logAt (machine .logs) thread .head .0
 
 -- a change of a log that makes no entry and moves no head
-pub log-stays : (machine after : Machine) (ghost : Ghost) (now thread : ℕ) (log : Log) → after .logs ≡ set (machine .logs) thread log → thread < length (machine .logs) → log .tail .next .0 ≡ logAt (machine .logs) thread .tail .next .0 → log .head .0 ≡ logAt (machine .logs) thread .head .0 → logAt (machine .logs) thread .tail .durable .0 ≤ log .tail .durable .0 → EntriesStay machine after ghost now
-log-stays machine after ghost now thread log isSet inLogs nextSame headIs durableGrows = record {
-  keeps = rw isSet (keep-view (machine .logs) (ghost .event) (ghost .time) now thread log inLogs nextSame (omega (arith, headIs)) durableGrows);
+pub log-stays : (start : Beginning) (machine after : Machine) (ghost : Ghost) (now thread : ℕ) (log : Log) → after .logs ≡ set (machine .logs) thread log → thread < length (machine .logs) → log .tail .next .0 ≡ logAt (machine .logs) thread .tail .next .0 → log .head .0 ≡ logAt (machine .logs) thread .head .0 → logAt (machine .logs) thread .tail .durable .0 ≤ log .tail .durable .0 → EntriesStay start machine after ghost now
+log-stays start machine after ghost now thread log isSet inLogs nextSame headIs durableGrows = record {
+  keeps = rw isSet (keep-view (start .before) (machine .logs) (ghost .event) (ghost .time) now thread log inLogs nextSame (omega (arith, headIs)) durableGrows);
   headSame = rw isSet (by-log (λ other log. log .head .0 ≡ logAt (machine .logs) other .head .0) (machine .logs) thread log inLogs headIs (λ other differs. refl));
 }
 
 -- the logs are as they were
-pub logs-stay : (machine after : Machine) (ghost : Ghost) (now : ℕ) → after .logs ≡ machine .logs → EntriesStay machine after ghost now
-logs-stay machine after ghost now same = record {
-  keeps = rw same (same-view (entriesOf machine ghost) now);
+pub logs-stay : (start : Beginning) (machine after : Machine) (ghost : Ghost) (now : ℕ) → after .logs ≡ machine .logs → EntriesStay start machine after ghost now
+logs-stay start machine after ghost now same = record {
+  keeps = rw same (same-view (entriesOf start machine ghost) now);
   headSame = λ thread. rw same;
 }
 
-module _ {start : List ℕ} {machine : Machine} {history : List Fed} {ghost : Ghost} (world : World start machine history ghost) where
+module _ {start : Beginning} {machine : Machine} {history : List Fed} {ghost : Ghost} (world : World start machine history ghost) where
   same-locks : SameLocks (locksOf machine) (locksOf machine)
   same-locks = record { releasingSame = λ thread. refl; holderSame = λ lock. refl; countSame = λ lock. refl }
 
   -- a step that leaves the logs and the locks alone: what is left to show is of the cache and the cells
-  world-aside : (cache : Cache) (accesses : Accesses) (fed : Fed) (next : Ghost) → next .event ≡ ghost .event → next .time ≡ ghost .time → Quiet fed → Sized (withAccesses (withCache machine cache) accesses) → CacheLaws.Sized cache → CacheLaws.DurableKept cache → CellsHold (entriesOf machine ghost) (contentsOf start cache) (next .versions) → World start (withAccesses (withCache machine cache) accesses) (thenFed history fed) next
+  world-aside : (cache : Cache) (accesses : Accesses) (fed : Fed) (next : Ghost) → next .event ≡ ghost .event → next .time ≡ ghost .time → Quiet fed → Sized (withAccesses (withCache machine cache) accesses) → CacheLaws.Sized cache → CacheLaws.DurableKept cache → CellsHold (entriesOf start machine ghost) (contentsOf start cache) (next .versions) → World start (withAccesses (withCache machine cache) accesses) (thenFed history fed) next
   world-aside cache accesses fed next sameEvent sameTime quiet sized cacheSized durableKept cells =
       world-quiet
       (record {
@@ -92,7 +90,7 @@ module _ {start : List ℕ} {machine : Machine} {history : List Fed} {ghost : Gh
         logs = world .logs;
         cacheSized = cacheSized;
         durableKept = durableKept;
-        keeps = same-view (entriesOf machine ghost) (length history);
+        keeps = same-view (entriesOf start machine ghost) (length history);
         headSame = λ thread. refl;
         sameLocks = same-locks;
         prunedSame = λ lock. refl;
@@ -121,7 +119,7 @@ module _ {start : List ℕ} {machine : Machine} {history : List Fed} {ghost : Gh
         (world .cells)
 
     -- the cells after a change of the cache that stores nothing
-    cache-cells : (cache : Cache) → ((cell : ℕ) → cachedAt cache cell ≡ cachedAt (machine .cache) cell) → ((cell : ℕ) → (persistedAt cache cell ≡ cachedAt (machine .cache) cell) ⊎ (persistedAt cache cell ≡ persistedAt (machine .cache) cell)) → (after : Machine) → Keeps (entriesOf machine ghost) (entriesOf after ghost) (length history) → ((other : ℕ) → logAt (after .logs) other .head .0 ≡ logAt (machine .logs) other .head .0) → CellsHold (entriesOf after ghost) (contentsOf start cache) (ghost .versions)
+    cache-cells : (cache : Cache) → ((cell : ℕ) → cachedAt cache cell ≡ cachedAt (machine .cache) cell) → ((cell : ℕ) → (persistedAt cache cell ≡ cachedAt (machine .cache) cell) ⊎ (persistedAt cache cell ≡ persistedAt (machine .cache) cell)) → (after : Machine) → Keeps (entriesOf start machine ghost) (entriesOf start after ghost) (length history) → ((other : ℕ) → logAt (after .logs) other .head .0 ≡ logAt (machine .logs) other .head .0) → CellsHold (entriesOf start after ghost) (contentsOf start cache) (ghost .versions)
     cache-cells cache cached persisted after keeps heads =
         cells-keep
         keeps
@@ -148,7 +146,7 @@ module _ {start : List ℕ} {machine : Machine} {history : List Fed} {ghost : Gh
         (effect-sized machine (world .sized) FLUSH thread place value fails)
         (CacheLaws.flushOf-sized (machine .cache) (world .cacheSized) thread place)
         (CacheLaws.flushOf-kept (machine .cache) (world .cacheSized) thread place (world .durableKept))
-        (cache-cells (flushOf (machine .cache) thread place) (CacheLaws.flushOf-cached (machine .cache) (world .cacheSized) thread place) (λ cell. inr (CacheLaws.flushOf-persisted (machine .cache) (world .cacheSized) thread place cell)) machine (same-view (entriesOf machine ghost) (length history)) (λ other. refl))
+        (cache-cells (flushOf (machine .cache) thread place) (CacheLaws.flushOf-cached (machine .cache) (world .cacheSized) thread place) (λ cell. inr (CacheLaws.flushOf-persisted (machine .cache) (world .cacheSized) thread place cell)) machine (same-view (entriesOf start machine ghost) (length history)) (λ other. refl))
 
     -- a test decides whether a cell's persisted content becomes its cached one
     kept-or-same : (test : Bool) (cached persisted : ℕ) {found : ℕ} → found ≡ cond test cached persisted → (found ≡ cached) ⊎ (found ≡ persisted)
@@ -169,7 +167,7 @@ module _ {start : List ℕ} {machine : Machine} {history : List Fed} {ghost : Gh
         (effect-sized machine (world .sized) EVICT thread place value fails)
         (CacheLaws.evictOf-sized (machine .cache) (world .cacheSized) place)
         (CacheLaws.evictOf-kept (machine .cache) (world .cacheSized) place (world .durableKept))
-        (cache-cells (evictOf (machine .cache) place) (CacheLaws.evictOf-cached (machine .cache) (world .cacheSized) place) (λ cell. kept-or-same (eqb (lineOf cell) place) (cachedAt (machine .cache) cell) (persistedAt (machine .cache) cell) (CacheLaws.evictOf-persisted (machine .cache) (world .cacheSized) place cell)) machine (same-view (entriesOf machine ghost) (length history)) (λ other. refl))
+        (cache-cells (evictOf (machine .cache) place) (CacheLaws.evictOf-cached (machine .cache) (world .cacheSized) place) (λ cell. kept-or-same (eqb (lineOf cell) place) (cachedAt (machine .cache) cell) (persistedAt (machine .cache) cell) (CacheLaws.evictOf-persisted (machine .cache) (world .cacheSized) place cell)) machine (same-view (entriesOf start machine ghost) (length history)) (λ other. refl))
 
     -- a change of the thread's log that makes no entry, moves no head and leaves the lock being released
     module _ (log : Log) (inRange : thread < 4) (holds : LogHolds log (ghost .event thread)) (nextSame : log .tail .next .0 ≡ logAt (machine .logs) thread .tail .next .0) (headIs : log .head .0 ≡ logAt (machine .logs) thread .head .0) (durableGrows : logAt (machine .logs) thread .tail .durable .0 ≤ log .tail .durable .0) (releasingIs : log .tail .releasing ≡ logAt (machine .logs) thread .tail .releasing) where
@@ -179,8 +177,8 @@ module _ {start : List ℕ} {machine : Machine} {history : List Fed} {ghost : Gh
       logs-then : (other : ℕ) → other < 4 → LogHolds (logAt (set (machine .logs) thread log) other) (ghost .event other)
       logs-then = by-log (λ other log. other < 4 → LogHolds log (ghost .event other)) (machine .logs) thread log inLogs (λ _. holds) (λ other differs. world .logs other)
 
-      keeps-then : Keeps (entriesOf machine ghost) (entriesOf (withLog machine thread log) ghost) (length history)
-      keeps-then = keep-view (machine .logs) (ghost .event) (ghost .time) (length history) thread log inLogs nextSame (omega (arith, headIs)) durableGrows
+      keeps-then : Keeps (entriesOf start machine ghost) (entriesOf start (withLog machine thread log) ghost) (length history)
+      keeps-then = keep-view (start .before) (machine .logs) (ghost .event) (ghost .time) (length history) thread log inLogs nextSame (omega (arith, headIs)) durableGrows
 
       heads-then : (other : ℕ) → logAt (set (machine .logs) thread log) other .head .0 ≡ logAt (machine .logs) other .head .0
       heads-then = by-log (λ other log. log .head .0 ≡ logAt (machine .logs) other .head .0) (machine .logs) thread log inLogs headIs (λ other differs. refl)
@@ -288,23 +286,23 @@ module _ {start : List ℕ} {machine : Machine} {history : List Fed} {ghost : Gh
     }
 
     -- the cell's entry in the thread's current region, which STORE asks for
-    pub stored-entry : AllFail (testsOf machine STORE thread place value) → (number old : ℕ) × Is (entriesOf machine ghost) thread number (Store place old) × NoBoundaryAfter (entriesOf machine ghost) thread number × (logAt (machine .logs) thread .head .0 ≤ number) × (number ≤ logAt (machine .logs) thread .tail .durable .0)
+    pub stored-entry : AllFail (testsOf machine STORE thread place value) → (number old : ℕ) × Is (entriesOf start machine ghost) thread number (Store place old) × NoBoundaryAfter (entriesOf start machine ghost) thread number × (logAt (machine .logs) thread .head .0 ≤ number) × (number ≤ logAt (machine .logs) thread .tail .durable .0)
     stored-entry fails =
         let asked = store-asked machine thread place value fails in
         let holds = world .logs thread (asked .inThread) in
         let found = logged-at (logAt (machine .logs) thread) (ghost .event thread) holds place (asked .number) (asked .isLogged) in
-        let positive = holds .headPositive in
+        let since = world .begins thread (asked .inThread) in
         let from = found .loggedFrom in (
           asked .number,
           found .old,
-          record { made = record { positive = omega arith; below = found .loggedTo }; says = found .storeIs },
+          record { made = record { since = omega arith; below = found .loggedTo }; says = found .storeIs },
           (λ later after made. (found .noAcquireAfter later after (made .below), found .noReleaseAfter later after (made .below))),
           from,
           asked .isDurable,
         )
 
     -- what STORE does to the cell
-    pub stores-cell : (fails : AllFail (testsOf machine STORE thread place value)) → StoresCell (entriesOf machine ghost) thread (stored-entry fails .0) place value (contentsOf start (machine .cache)) (contentsOf start (storeOf (machine .cache) place value)) (ghost .versions) (storedVersions .versions)
+    pub stores-cell : (fails : AllFail (testsOf machine STORE thread place value)) → StoresCell (entriesOf start machine ghost) thread (stored-entry fails .0) place value (contentsOf start (machine .cache)) (contentsOf start (storeOf (machine .cache) place value)) (ghost .versions) (storedVersions .versions)
     unfolding storeOf
     stores-cell fails =
         let asked = store-asked machine thread place value fails in

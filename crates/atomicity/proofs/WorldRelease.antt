@@ -1,50 +1,37 @@
 -- RELEASE and PRUNE keep what holds of a machine and its history.
-use Prim.Native.Nat.{ℕ, suc, _+_, _-_, _≤_, _<_}
-use native.Mathlib.Decide.{decLt, ℕ-discrete}
+use Prim.Native.Nat.{ℕ, suc, _+_, _-_, _<_}
 use native.Mathlib.Omega.{arith}
-use mathlib.Core.Path.{_≡_, refl, sym, ap, _∙_, subst}
-use mathlib.Core.Bool.{Bool, true, false, cond, not, _&&_, and-false, true≢false}
-use mathlib.Core.List.{List, [], _∷_}
-use mathlib.Core.Logic.{_⊎_, inl, inr, ⊎-elim, by-cases}
-use lib.ListN.{length, getD, set}
-use lib.Dec.{eqb, ltb}
-use borrow.Author.Tests.{ltb-true, ltb-false, eqb-false, not-false}
+use mathlib.Core.Path.{_≡_, refl, ap, _∙_}
+use mathlib.Core.Bool.{and-false}
+use mathlib.Core.List.{List}
+use lib.ListN.{length}
+use lib.Dec.{eqb}
 use Rattle.answer.proofs.RefusalLaws.{AllFail}
-use Rattle.answer.proofs.BelowLaws.{someBelow-none}
-use Rattle.cache.specs.Cache.{cachedAt, persistedAt, isDurable}
-use Rattle.log.specs.Entries.{syncCount, liveCount, liveEvent, endReleaseOf, pruneOf}
-use Rattle.log.specs.Regions.{isAcquire, isRelease, oldestRegion, isFinished}
+use Rattle.log.specs.Entries.{syncCount, endReleaseOf}
 use Rattle.ring.specs.Ring.{isReleasing, releasedTail}
-use Rattle.log.specs.declared.Event.{Event}
-use Rattle.log.specs.declared.Event.the-variants.{Empty, Store, Acquire, Release}
 use Rattle.log.specs.declared.Log.{Log}
-use Rattle.log.specs.declared.SyncCount.{SyncCount}
-use Rattle.ring.specs.declared.Releasing.{Releasing}
-use Rattle.ring.specs.declared.Releasing.the-variants.{Nothing, Lock}
-use Rattle.log.proofs.LogInvariant.{LogHolds, release-holds, prune-holds}
-use Rattle.log.proofs.RegionLaws.{RegionIs, live-event, oldest-region}
-use Rattle.machine.specs.Effects.{releaseEffect, pruneEffect, countPruned, effect}
-use Rattle.machine.specs.Holds.{noLock, logOf, lockOf, withLog, withLock}
-use Rattle.machine.specs.Kinds.{RELEASE, PRUNE}
-use Rattle.machine.specs.Refusals.{awaitsRelease, logsUndurable}
-use Rattle.machine.specs.declared.Holder.the-variants.{Nobody, Thread}
+use Rattle.log.proofs.LogInvariant.{LogHolds, release-holds}
+use Rattle.machine.specs.Effects.{releaseEffect, effect}
+use Rattle.machine.specs.Holds.{lockOf}
+use Rattle.machine.specs.Kinds.{RELEASE}
+use Rattle.machine.specs.declared.Holder.the-variants.{Nobody}
 use Rattle.machine.specs.declared.Lock.{Lock as LockState}
 use Rattle.machine.specs.declared.Machine.{Machine}
-use Rattle.machine.proofs.Asked.{release-asked, PruneAsked, prune-asked}
-use Rattle.machine.proofs.Sizes.{Sized, effect-sized, withLog-sized, pruned-sized}
+use Rattle.machine.proofs.Asked.{release-asked}
+use Rattle.machine.proofs.Sizes.{effect-sized}
 use Rattle.machine.proofs.StepLaws.{testsOf}
-use Rattle.atomicity.specs.History.{Fed, stepAt}
-use Rattle.atomicity.proofs.Logged.{Entries, Made, Is, IsReleaseOf, IsAcquireOf, Keeps, still-is}
-use Rattle.atomicity.proofs.Locks.{Locks, LocksHold, PrunesHold, SameLocks, locks-keep, prunes-keep, ReleaseLocks, locks-release, count-grows, EndsInRelease, PruneLocks, prunes-prune}
-use Rattle.atomicity.proofs.Cells.{Version, Chain, linked, unlogged, In, here, there, CellsHold, PersistCell, made-equal, unchanged, cells-keep}
+use Rattle.atomicity.specs.History.{Fed}
+use Rattle.atomicity.proofs.Logged.{Keeps, still-is}
+use Rattle.atomicity.proofs.Locks.{prunes-keep, ReleaseLocks, locks-release, count-grows}
+use Rattle.atomicity.proofs.Cells.{unchanged, cells-keep}
 use Rattle.atomicity.proofs.HistoryRuns.{tookStep}
-use Rattle.atomicity.proofs.Places.{PlacesHold, NewPlace, thenFed, madeBy, makes, made-new, places-step}
-use Rattle.atomicity.proofs.Times.{Formed, aStore, anAcquire, aRelease, TimesHold, times-keep}
+use Rattle.atomicity.proofs.Places.{thenFed, madeBy, made-new, places-step}
+use Rattle.atomicity.proofs.Times.{times-keep}
 use Rattle.atomicity.proofs.Views.{logAt, by-log, keep-view, log-same, log-other}
-use Rattle.atomicity.proofs.World.{Ghost, World, HeadAt, at-start, after-release, at-acquire, Quiet, entriesOf, locksOf, contentsOf, quiet-place, head-kept}
+use Rattle.atomicity.proofs.World.{Beginning, Ghost, World, entriesOf, locksOf, head-kept}
 use Rattle.atomicity.proofs.WorldAppends.{by-lock}
 
-module _ {start : List ℕ} {machine : Machine} {history : List Fed} {ghost : Ghost} (world : World start machine history ghost) (thread place value : ℕ) where
+module _ {start : Beginning} {machine : Machine} {history : List Fed} {ghost : Ghost} (world : World start machine history ghost) (thread place value : ℕ) where
   pub world-release : AllFail (testsOf machine RELEASE thread place value) → World start (effect machine RELEASE thread place value .machine) (thenFed history (tookStep RELEASE thread place value)) ghost
   unfolding effect releaseEffect endReleaseOf releasedTail
   world-release fails =
@@ -56,12 +43,12 @@ module _ {start : List ℕ} {machine : Machine} {history : List Fed} {ghost : Gh
       let inLogs : thread < length (machine .logs) = rw (world .sized .logs) (asked .inThread) in
       let inLocks : place < length (machine .locks) = rw (world .sized .locks) (asked .inLock) in
       let freed : LockState = record { holder = Nobody; count = syncCount (lockOf machine place .count .0 + 1); pruned = lockOf machine place .pruned } in
-      let keeps : Keeps (entriesOf machine ghost) (entriesOf after ghost) (length history) = keep-view (machine .logs) (ghost .event) (ghost .time) (length history) thread (endReleaseOf log) inLogs refl (omega arith) (omega arith) in
+      let keeps : Keeps (entriesOf start machine ghost) (entriesOf start after ghost) (length history) = keep-view (start .before) (machine .logs) (ghost .event) (ghost .time) (length history) thread (endReleaseOf log) inLogs refl (omega arith) (omega arith) in
       let heads : (other : ℕ) → logAt (after .logs) other .head .0 ≡ logAt (machine .logs) other .head .0 = by-log (λ other l. l .head .0 ≡ logAt (machine .logs) other .head .0) (machine .logs) thread (endReleaseOf log) inLogs refl (λ other differs. refl) in
       let positive = holds .headPositive in
       let within = holds .headNext in
       let durable = asked .lastDurable in
-      let step : ReleaseLocks (entriesOf machine ghost) (entriesOf after ghost) (length history) thread place (locksOf machine) (locksOf after) = record {
+      let step : ReleaseLocks (entriesOf start machine ghost) (entriesOf start after ghost) (length history) thread place (locksOf machine) (locksOf after) = record {
         keeps = keeps;
         isReleasing = asked .isReleasingIt;
         lastDurable = omega arith;
@@ -76,10 +63,11 @@ module _ {start : List ℕ} {machine : Machine} {history : List Fed} {ghost : Gh
       let last = world .locks .lastWhile (asked .isReleasingIt) in
       let counted = world .places .nextIs thread (asked .inThread) in
       let numbered = last .1 in
-      let atLast : madeBy (thenFed history fed) thread (suc (length history)) ≡ last .0 = made-new history fed thread ∙ rw (and-false (eqb thread thread)) (omega arith) in
+      let atLast : madeBy (start .before) (thenFed history fed) thread (suc (length history)) ≡ last .0 = made-new history fed (start .before) thread ∙ rw (and-false (eqb thread thread)) (omega arith) in
       record {
         sized = effect-sized machine (world .sized) RELEASE thread place value fails;
         logs = by-log (λ other l. other < 4 → LogHolds l (ghost .event other)) (machine .logs) thread (endReleaseOf log) inLogs (λ _. release-holds log (ghost .event thread) holds) (λ other differs. world .logs other);
+        begins = λ other inRange. let same = heads other in let was = world .begins other inRange in omega arith;
         cacheSized = world .cacheSized;
         durableKept = world .durableKept;
         locks = locks-release step (world .locks);

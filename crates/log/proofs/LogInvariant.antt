@@ -8,19 +8,19 @@ use native.Mathlib.Decide.{decLt, ℕ-discrete}
 use native.Mathlib.Omega.{arith}
 use borrow.Author.Tests.{eq-eqb, ne-eqb, leb-false}
 use lib.Dec.{eqb}
-use lib.ListN.{length, getD, length-set, getD-replicate}
+use lib.ListN.{length, getD, length-set}
 use lib.Seq.{getD-set-same, getD-set-other}
 use Rattle.answer.proofs.RefusalLaws.{AllFail}
-use Rattle.ring.specs.Ring.{slotCount, lastLsn, lsn, slotOf, freshTail, grownTail, roomTests, flushedTail, fencedTail, releasedTail}
+use Rattle.ring.specs.Ring.{slotCount, lastLsn, lsn, slotOf, grownTail, roomTests, flushedTail, fencedTail, releasedTail}
 use Rattle.stretch.specs.Stretch.{entryWords, wordAt, holds}
 use Rattle.stretch.proofs.Presence.{held-word}
-use Rattle.log.specs.Entries.{entryOf, untouched, zeros, slotWords, wordsOf, freshLog, entryAt, withTail, isLiveSlot, appendTests, appendOf, flushLogOf, endReleaseOf, persistSlot, persistFrom, fenceLogOf, evictSlotOf, pruneOf}
+use Rattle.log.specs.Entries.{entryOf, untouched, wordsOf, entryAt, withTail, isLiveSlot, appendTests, appendOf, flushLogOf, endReleaseOf, persistSlot, persistFrom, fenceLogOf, evictSlotOf, pruneOf}
 use Rattle.log.specs.declared.CachedSlot.{CachedSlot}
 use Rattle.log.specs.declared.Event.{Event}
 use Rattle.log.specs.declared.Log.{Log}
 use Rattle.log.specs.declared.PersistedSlot.{PersistedSlot}
 use Rattle.ring.specs.declared.Tail.{Tail}
-use Rattle.log.proofs.SlotLaws.{slot-below, same-slot, live-slot, slot-word, WordsAre, length-persistSlot, persist-here, persist-other, persist-holds-other}
+use Rattle.log.proofs.SlotLaws.{slot-below, same-slot, live-slot, WordsAre, length-persistSlot, persist-here, persist-other, persist-holds-other}
 
 -- the invariant of a log, where `events number` is what the thread's entry of that LSN says, pruned entries included
 pub record LogHolds (log : Log) (events : ℕ → Event) : Type 0 where
@@ -48,28 +48,6 @@ withEvent-here events number event = rw (eq-eqb number number refl)
 pub withEvent-other : (events : ℕ → Event) (number : ℕ) (event : Event) (other : ℕ) → other ≢ number → withEvent events number event other ≡ events other
 unfolding withEvent
 withEvent-other events number event other differs = rw (ne-eqb other number differs)
-
-pub fresh-holds : (events : ℕ → Event) → LogHolds freshLog events
-unfolding freshLog freshTail
-fresh-holds events = record {
-  cachedSlots = refl;
-  persistedSlots = refl;
-  headPositive = omega arith;
-  headNext = omega arith;
-  nextBound = omega arith;
-  window = omega arith;
-  durableFlushed = omega arith;
-  flushedNext = omega arith;
-  headDurable = omega arith;
-  cachedIs = λ number from to. absurd (omega arith);
-  foundIs = λ number from to held.
-      let word = held-word (wordsOf (freshLog .persisted)) number held in
-      let none : wordAt (wordsOf (freshLog .persisted)) number 3 ≡ 0 =
-      slot-word (freshLog .persisted) (slotOf number) 3 (omega arith)
-      ∙ ap (λ slot. getD (slotWords slot) 3 0) (getD-replicate slotCount (slotOf number) zeros zeros (slot-below number)) in
-      absurd (omega arith);
-  durableIs = λ number from to. absurd (omega arith);
-}
 
 -- the log has room for one entry more
 pub append-room : (log : Log) → AllFail (appendTests log) → (log .tail .next .0 < lastLsn + 1) × (log .tail .next .0 - log .head .0 < slotCount)

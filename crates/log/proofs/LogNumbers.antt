@@ -1,8 +1,8 @@
 -- What each change of a log does to its head, to the next LSN, and to the last durable and the last flushed one.
 use Prim.Native.Nat.{ℕ, _+_, _-_}
 use mathlib.Core.Path.{_≡_, refl}
-use Rattle.ring.specs.Ring.{freshTail, grownTail, flushedTail, fencedTail, releasedTail}
-use Rattle.log.specs.Entries.{freshLog, appendOf, flushLogOf, endReleaseOf, fenceLogOf, evictSlotOf, pruneOf}
+use Rattle.ring.specs.Ring.{grownTail, flushedTail, fencedTail, releasedTail}
+use Rattle.log.specs.Entries.{appendOf, flushLogOf, endReleaseOf, fenceLogOf, evictSlotOf, pruneOf}
 use Rattle.log.specs.declared.Event.{Event}
 use Rattle.log.specs.declared.Log.{Log}
 
@@ -12,10 +12,6 @@ pub record Numbers (log : Log) (head next durable flushed : ℕ) : Type 0 where
   pub nextIs : log .tail .next .0 ≡ next
   pub durableIs : log .tail .durable .0 ≡ durable
   pub flushedIs : log .tail .flushed .0 ≡ flushed
-
-pub fresh-numbers : Numbers freshLog 1 1 0 0
-unfolding freshLog freshTail
-fresh-numbers = record { headIs = refl; nextIs = refl; durableIs = refl; flushedIs = refl }
 
 pub append-numbers : (log : Log) (event : Event) → Numbers (appendOf log event) (log .head .0) (log .tail .next .0 + 1) (log .tail .durable .0) (log .tail .flushed .0)
 unfolding appendOf grownTail

@@ -3,39 +3,36 @@
 use Prim.Native.Nat.{ℕ, zero, suc, _+_, _-_, _≤_, _<_, _*_}
 use native.Mathlib.Decide.{decLt, ℕ-discrete}
 use native.Mathlib.Omega.{arith}
-use mathlib.Core.Path.{_≡_, refl, sym, ap, _∙_, subst}
+use mathlib.Core.Path.{_≡_, refl}
 use mathlib.Core.Bool.{Bool, true, false, cond}
 use mathlib.Core.List.{List, [], _∷_}
 use mathlib.Core.Logic.{by-cases}
-use lib.ListN.{length, getD, set, replicate, getD-replicate, List·getD-eq-default}
-use Rattle.answer.specs.declared.Answer.the-variants.{Accepted, WrongLength}
+use lib.ListN.{length, getD, set, List·getD-eq-default}
 use Rattle.answer.proofs.ListLaws.{getD-blank}
-use Rattle.answer.proofs.ListCases.{set-cases, replicate-cases}
+use Rattle.answer.proofs.ListCases.{set-cases}
 use Rattle.answer.proofs.RefusalLaws.{AllFail}
-use lib.Dec.{eqb}
-use Rattle.log.specs.Entries.{liveEvent, freshLog, appendTests, appendOf, flushLogOf, endReleaseOf, fenceLogOf, evictSlotOf, pruneOf}
+use Rattle.log.specs.Entries.{liveEvent, appendTests, appendOf, flushLogOf, endReleaseOf, fenceLogOf, evictSlotOf, pruneOf}
 use Rattle.log.specs.Regions.{oldestRegion, isFinished}
-use Rattle.ring.specs.Ring.{isReleasing, freshTail, grownTail, flushedTail, fencedTail, releasedTail}
+use Rattle.ring.specs.Ring.{isReleasing, grownTail, flushedTail, fencedTail, releasedTail}
 use Rattle.log.specs.declared.Event.{Event}
 use Rattle.log.specs.declared.Event.the-variants.{Empty, Store, Acquire, Release}
 use Rattle.log.specs.declared.Log.{Log}
 use native.Mathlib.Nat.{suc-mul}
-use Rattle.ring.specs.declared.Releasing.{Releasing}
 use Rattle.ring.specs.declared.Releasing.the-variants.{Lock}
 use Rattle.log.proofs.LogInvariant.{append-room}
 use Rattle.log.proofs.RegionLaws.{region-live, finished-some}
 use Rattle.machine.specs.Clocks.{clockAt, joinOf, raisedOf, loadedOf, loggedCellOf}
 use Rattle.machine.specs.Effects.{loadEffect, logEffect, storeEffect, acquireEffect, logReleaseEffect, releaseEffect, flushEffect, flushLogEffect, fenceEffect, pruneEffect, prunedLocks, evictEffect, evictLogEffect, effect}
-use Rattle.machine.specs.Holds.{noLog, noLock, noClock, logOf, lockOf, clockOf, lockClockOf, startClocks, freshMachine, startOf}
+use Rattle.machine.specs.Holds.{noLog, noLock, noClock, logOf, lockOf, clockOf, lockClockOf, startClocks, startOf}
 use Rattle.machine.specs.Kinds.{Kind, LOAD, LOG, STORE, ACQUIRE, LOGREL, RELEASE, FLUSH, FLUSHLOG, FENCE, PRUNE, EVICT, EVICTLOG}
 use Rattle.machine.specs.Runs.{Step, after, Reached}
 use Rattle.machine.specs.declared.Clock.{Clock}
 use Rattle.machine.specs.declared.Lock.{Lock as LockState}
 use Rattle.machine.specs.declared.Machine.{Machine}
-use Rattle.machine.specs.declared.Stepped.{Stepped}
 use Rattle.machine.proofs.Asked.{log-asked, acquire-asked, log-release-asked, release-asked, flush-log-asked, fence-asked, prune-asked, evict-log-asked}
+use Rattle.machine.proofs.Beginnings.{machineWith, AllIdle, each-log, releases-nothing, lock-free, freshLogs, fresh-all, on-start}
 use Rattle.machine.proofs.ClockLaws.{clockAt-join, clockAt-raised-other, clockAt-raised-own, clockAt-none, start-raised}
-use Rattle.machine.proofs.Sizes.{Sized, effect-sized, fresh-sized}
+use Rattle.machine.proofs.Sizes.{Sized, effect-sized, begin-sized}
 use Rattle.machine.proofs.StepLaws.{testsOf, after-keeps}
 
 -- the sum of a number of each element of a list
@@ -60,6 +57,15 @@ sum-bound number (first ∷ list) bound default each =
     let here : number first ≤ bound = each 0 (omega arith) in
     let rest = sum-bound number list bound default (λ place inRange. each (suc place) (omega arith)) in
     rw (suc-mul (length list) bound) (omega arith)
+
+-- numbers of which each is at least 1
+pub sum-least : {A : Type 0} (number : A → ℕ) (list : List A) (default : A) → ((place : ℕ) → place < length list → 1 ≤ number (getD list place default)) → length list ≤ sumBy number list
+unfolding sumBy
+sum-least number [] default each = omega arith
+sum-least number (first ∷ list) default each =
+    let here : 1 ≤ number first = each 0 (omega arith) in
+    let rest = sum-least number list default (λ place inRange. each (suc place) (omega arith)) in
+    omega arith
 
 -- the next LSN, the oldest live one, and 1 for a thread that is releasing
 abbrev pub nextOf : Log → ℕ
@@ -313,44 +319,46 @@ effect-counted machine counted EVICT thread place value fails = counted-same mac
 effect-counted machine counted EVICTLOG thread place value fails =
     counted-log machine _ counted (effect-sized machine (counted .sized) EVICTLOG thread place value fails) thread _ 0 0 (evict-log-asked machine thread place value fails .inThread) (omega (arith, counted .nextBound thread, counted .headBound thread)) (λ lock. stays (lockOf machine lock)) refl refl refl
 
--- at the start each clock knows of no step, but a thread's own number is 1
-fresh-within : (owner : ℕ) → Within (replicate 4 freshLog) (getD startClocks owner noClock)
-unfolding freshLog freshTail
-fresh-within owner =
-    by-cases
-    (decLt owner 4)
-    (λ inRange. rw (start-raised owner inRange) (within-own inRange))
-    (λ over. let past : 4 ≤ owner = omega arith in rw (List·getD-eq-default startClocks noClock {n = owner} past) none-within)
-  where
-    none-within : Within (replicate 4 freshLog) noClock
-    none-within thread = rw (clockAt-none thread) (replicate-cases (λ log. 0 + closingOf log ≤ nextOf log) 4 thread freshLog noLog (omega arith) (omega arith))
+-- at a beginning the counts are 0, and each clock knows of no step, but that a thread's own number is 1
+module _ (cells : List ℕ) (logs : List Log) (all : AllIdle logs) where
+  closing-none : (thread : ℕ) → closingOf (getD logs thread noLog) ≡ 0
+  closing-none thread = rw (releases-nothing logs all thread)
 
-    within-own : owner < 4 → Within (replicate 4 freshLog) (raisedOf noClock owner)
-    within-own inRange thread =
-        by-cases
-        (ℕ-discrete thread owner)
-        (λ same. rw (same, clockAt-raised-own noClock owner inRange, clockAt-none owner, getD-replicate 4 owner freshLog noLog inRange) (omega arith))
-        (λ differs. rw (clockAt-raised-other noClock owner thread differs) (none-within thread))
+  begin-within : (owner : ℕ) → Within logs (getD startClocks owner noClock)
+  begin-within owner =
+      by-cases
+      (decLt owner 4)
+      (λ inRange. rw (start-raised owner inRange) (within-own inRange))
+      (λ over. let past : 4 ≤ owner = omega arith in rw (List·getD-eq-default startClocks noClock {n = owner} past) none-within)
+    where
+      none-within : Within logs noClock
+      none-within thread = rw (clockAt-none thread, closing-none thread) (omega arith)
 
-pub fresh-counted : (cells : List ℕ) → Counted (freshMachine cells)
-unfolding freshMachine freshLog freshTail sumBy
-fresh-counted cells = record {
-  sized = fresh-sized cells;
-  nextBound = λ thread. replicate-cases (λ log. nextOf log ≤ 1000001) 4 thread freshLog noLog (omega arith) (omega arith);
-  headBound = λ thread. replicate-cases (λ log. headOf log ≤ nextOf log) 4 thread freshLog noLog (omega arith) (omega arith);
-  counts = λ lock. rw (getD-blank 8 lock noLock) (omega arith);
-  prunings = λ lock. rw (getD-blank 8 lock noLock) (omega arith);
-  clocks = fresh-within;
-  lockClocks = λ lock. rw (getD-blank 8 lock noClock) (fresh-within 4);
-}
+      within-own : owner < 4 → Within logs (raisedOf noClock owner)
+      within-own inRange thread =
+          by-cases
+          (ℕ-discrete thread owner)
+          (λ same. rw (same, clockAt-raised-own noClock owner inRange, clockAt-none owner, closing-none owner) (omega (arith, all .idle owner inRange .headLeast, all .idle owner inRange .nextIs)))
+          (λ differs. rw (clockAt-raised-other noClock owner thread differs) (none-within thread))
+
+  pub begin-counted : Counted (machineWith cells logs)
+  begin-counted =
+      let four = all .forThreads in
+      let none = sum-bound closingOf logs 0 noLog (λ thread inRange. omega (arith, closing-none thread)) in
+      let heads = sum-least headOf logs noLog (λ thread inRange. all .idle thread (omega arith) .headLeast) in
+      let nexts = sum-least nextOf logs noLog (λ thread inRange. let is = all .idle thread (omega arith) in omega (arith, is .headLeast, is .nextIs)) in
+      record {
+        sized = begin-sized cells logs all;
+        nextBound = each-log logs all (λ log. nextOf log ≤ 1000001) (λ log is. omega (arith, is .nextIs, is .headMost)) (omega arith);
+        headBound = each-log logs all (λ log. headOf log ≤ nextOf log) (λ log is. omega (arith, is .nextIs)) (omega arith);
+        counts = λ lock. rw (lock-free logs all cells lock) (omega arith);
+        prunings = λ lock. rw (lock-free logs all cells lock) (omega arith);
+        clocks = begin-within;
+        lockClocks = λ lock. rw (getD-blank 8 lock noClock) (begin-within 4);
+      }
 
 pub start-counted : (words : List ℕ) → Counted (startOf words .machine)
-unfolding startOf
-start-counted words = by-length (eqb (length words) 128)
-  where
-    by-length : (isLength : Bool) → Counted (cond {A = Stepped} isLength (record { answer = Accepted 0; machine = freshMachine words }) (record { answer = WrongLength; machine = freshMachine (replicate 128 0) }) .machine)
-    by-length true = fresh-counted words
-    by-length false = fresh-counted (replicate 128 0)
+start-counted words = on-start Counted (λ cells isLength. begin-counted cells freshLogs fresh-all) words
 
 -- every machine that the start call and steps lead to is within the bounds
 pub after-counted : (words : List ℕ) (steps : List Step) → Counted (after (startOf words .machine) steps)

@@ -1,5 +1,6 @@
 -- Laws about steps, and what holds of every machine that a list of steps leads to.
 pub mod StepLaws
+pub mod Beginnings
 pub mod Sizes
 pub mod Stretches
 pub mod ImageWritten

@@ -1,10 +1,9 @@
 -- The machine's arrays keep their lengths, and what stands at a number after a change of one of them.
 use Prim.Native.Nat.{ℕ, _<_, _-_}
-use mathlib.Core.Path.{_≡_, refl, sym, _∙_, subst}
+use mathlib.Core.Path.{_≡_, refl}
 use mathlib.Core.Logic.{_≢_}
 use mathlib.Core.List.{List}
-use lib.ListN.{length, getD, set, replicate, length-set}
-use Rattle.answer.specs.declared.Answer.the-variants.{Accepted, WrongLength}
+use lib.ListN.{length, length-set}
 use lib.Seq.{getD-set-same, getD-set-other}
 use Rattle.answer.proofs.RefusalLaws.{AllFail}
 use Rattle.log.specs.Entries.{liveEvent, pruneOf}
@@ -14,14 +13,12 @@ use Rattle.log.specs.declared.Event.the-variants.{Empty, Store, Acquire, Releas
 use Rattle.log.specs.declared.Log.{Log}
 use Rattle.machine.specs.Clocks.{loadedOf, loggedCellOf}
 use Rattle.machine.specs.Effects.{loadEffect, logEffect, storeEffect, acquireEffect, logReleaseEffect, releaseEffect, flushEffect, flushLogEffect, fenceEffect, pruneEffect, countPruned, evictEffect, evictLogEffect, effect}
-use Rattle.machine.specs.Holds.{noLog, noLock, noClock, logOf, lockOf, withLog, freshMachine, startOf}
+use Rattle.machine.specs.Holds.{noLog, logOf, withLog, startOf}
 use Rattle.machine.specs.Kinds.{Kind, LOAD, LOG, STORE, ACQUIRE, LOGREL, RELEASE, FLUSH, FLUSHLOG, FENCE, PRUNE, EVICT, EVICTLOG}
 use Rattle.machine.specs.Runs.{Step, after}
 use Rattle.machine.specs.declared.Machine.{Machine}
-use Rattle.machine.specs.declared.Stepped.{Stepped}
+use Rattle.machine.proofs.Beginnings.{machineWith, AllIdle, freshLogs, fresh-all, on-start}
 use Rattle.machine.proofs.StepLaws.{testsOf, after-keeps}
-use mathlib.Core.Bool.{Bool, true, false, cond}
-use lib.Dec.{eqb}
 
 -- the lengths of the machine's arrays
 pub record Sized (machine : Machine) : Type 0 where
@@ -138,10 +135,10 @@ effect-sized machine sized EVICT thread place value fails = record {
 }
 effect-sized machine sized EVICTLOG thread place value fails = withLog-sized machine thread _ sized
 
-pub fresh-sized : (cells : List ℕ) → Sized (freshMachine cells)
-unfolding freshMachine
-fresh-sized cells = record {
-  logs = refl;
+-- the lengths at a beginning
+pub begin-sized : (cells : List ℕ) (logs : List Log) → AllIdle logs → Sized (machineWith cells logs)
+begin-sized cells logs all = record {
+  logs = all .forThreads;
   clocks = refl;
   lockClocks = refl;
   locks = refl;
@@ -150,17 +147,9 @@ fresh-sized cells = record {
   loggers = refl;
 }
 
-pub start-sized : (words : List ℕ) → Sized (startOf words .machine)
-unfolding startOf
-start-sized words = by-length (eqb (length words) 128)
-  where
-    by-length : (isLength : Bool) → Sized (cond {A = Stepped} isLength (record { answer = Accepted 0; machine = freshMachine words }) (record { answer = WrongLength; machine = freshMachine (replicate 128 0) }) .machine)
-    by-length true = fresh-sized words
-    by-length false = fresh-sized (replicate 128 0)
-
 -- every machine that the start call and steps lead to has its arrays whole
 pub after-sized : (words : List ℕ) (steps : List Step) → Sized (after (startOf words .machine) steps)
-after-sized words steps = after-keeps Sized effect-sized (startOf words .machine) (start-sized words) steps
+after-sized words steps = after-keeps Sized effect-sized (startOf words .machine) (on-start Sized (λ cells isLength. begin-sized cells freshLogs fresh-all) words) steps
 
 -- a log that is put in place is found there, and the other threads' logs are as they were
 pub logOf-same : (machine : Machine) (thread : ℕ) (log : Log) → Sized machine → thread < 4 → logOf (withLog machine thread log) thread ≡ log

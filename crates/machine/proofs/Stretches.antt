@@ -1,23 +1,20 @@
 -- Each log of a machine that the start call and steps lead to has all of its persisted slots.
 use Prim.Native.Nat.{ℕ, _<_}
 use mathlib.Core.Path.{_≡_, refl, sym, ap, _∙_, subst}
-use mathlib.Core.Bool.{Bool, true, false, cond}
 use mathlib.Core.List.{List, map}
 use lib.ListN.{length, getD, replicate, getD-replicate, length-map, List·getD-map}
 use lib.Seq.{map-set-same}
-use lib.Dec.{eqb}
-use Rattle.answer.specs.declared.Answer.the-variants.{Accepted, WrongLength}
 use Rattle.log.specs.Entries.{freshLog, appendOf, flushLogOf, endReleaseOf, fenceLogOf, evictSlotOf, pruneOf}
 use Rattle.log.specs.Regions.{oldestRegion}
 use Rattle.ring.specs.Ring.{slotCount}
 use Rattle.log.specs.declared.Log.{Log}
 use Rattle.log.proofs.SlotLaws.{length-persistSlot, length-persistFrom}
 use Rattle.machine.specs.Effects.{loadEffect, logEffect, storeEffect, acquireEffect, logReleaseEffect, releaseEffect, flushEffect, flushLogEffect, fenceEffect, pruneEffect, evictEffect, evictLogEffect, effect}
-use Rattle.machine.specs.Holds.{threadCount, noLog, logOf, withLog, freshMachine, startOf}
+use Rattle.machine.specs.Holds.{threadCount, noLog, logOf, withLog, startOf}
 use Rattle.machine.specs.Kinds.{Kind, LOAD, LOG, STORE, ACQUIRE, LOGREL, RELEASE, FLUSH, FLUSHLOG, FENCE, PRUNE, EVICT, EVICTLOG}
-use Rattle.machine.specs.Runs.{Step, after, Reached}
+use Rattle.machine.specs.Runs.{Reached}
 use Rattle.machine.specs.declared.Machine.{Machine}
-use Rattle.machine.specs.declared.Stepped.{Stepped}
+use Rattle.machine.proofs.Beginnings.{on-start}
 use Rattle.machine.proofs.StepLaws.{after-keeps}
 
 -- how many persisted slots each log has
@@ -49,17 +46,9 @@ effect-same machine PRUNE thread place value = put-same machine thread (pruneOf 
 effect-same machine EVICT thread place value = refl
 effect-same machine EVICTLOG thread place value = put-same machine thread (evictSlotOf (logOf machine thread) place) (length-persistSlot _ _ _)
 
-fresh-stretched : (cells : List ℕ) → Stretched (freshMachine cells)
-unfolding freshMachine freshLog slotCounts
-fresh-stretched cells = record { whole = refl }
-
 start-stretched : (words : List ℕ) → Stretched (startOf words .machine)
-unfolding startOf
-start-stretched words = by-length (eqb (length words) 128)
-  where
-    by-length : (isLength : Bool) → Stretched (cond {A = Stepped} isLength (record { answer = Accepted 0; machine = freshMachine words }) (record { answer = WrongLength; machine = freshMachine (replicate 128 0) }) .machine)
-    by-length true = fresh-stretched words
-    by-length false = fresh-stretched (replicate 128 0)
+unfolding freshLog slotCounts
+start-stretched words = on-start Stretched (λ cells isLength. record { whole = refl }) words
 
 -- every machine that the start call and steps lead to
 pub reached-stretched : (machine : Machine) → Reached machine → Stretched machine
