@@ -7,16 +7,16 @@ use mathlib.Core.Logic.{by-cases, _≢_}
 use native.Mathlib.Decide.{ℕ-discrete}
 use native.Mathlib.Omega.{arith}
 use lib.ListN.{length, getD, set, replicate, getD-replicate}
-use Rattle.machine.specs.Clocks.{clockAt, joinOf, raisedOf}
-use Rattle.machine.specs.Holds.{threadCount, lockCount, noClock, startClocks}
-use Rattle.machine.specs.declared.Clock.{Clock}
+use Rattle.accesses.specs.Clocks.{clockAt, joinOf, raisedOf, noClock, startClocks}
+use Rattle.kinds.specs.Kinds.{threadCount, lockCount}
+use Rattle.accesses.specs.declared.Clock.{Clock}
 use Rattle.atomicity.specs.History.{Fed, stepAt}
 use Rattle.atomicity.specs.HappensBefore.{HappensBefore}
 use Rattle.atomicity.proofs.Ordered.{andThen, StepOf, ReleaseOf, Reaches, next-of-thread}
 use Rattle.atomicity.proofs.Epochs.{releases, releases-grow, releases-refused, releases-kind, releases-thread, releases-more}
 use Rattle.atomicity.proofs.Knowledge.{Knows, KnowsNext, knows-refused, knows-other, knows-next, next-known, next-acquire-known, next-raised}
 use Rattle.answer.proofs.ListCases.{set-cases}
-use Rattle.machine.proofs.ClockLaws.{clockAt-join, clockAt-raised-other, clockAt-raised-own, clockAt-none, start-raised}
+use Rattle.accesses.proofs.ClockLaws.{clockAt-join, clockAt-raised-other, clockAt-raised-own, clockAt-none, start-raised}
 
 -- a clock of a list of clocks, as its numbers
 abbrev pub numbersOf : List Clock → ℕ → ℕ → ℕ

@@ -10,8 +10,7 @@ use borrow.Author.Tests.{ltb-true, eqb-true, not-false}
 use Rattle.answer.specs.Answer.{isAccepted}
 use Rattle.answer.proofs.RefusalLaws.{AllFail}
 use Rattle.machine.specs.Effects.{loadEffect, logEffect, storeEffect, acquireEffect, logReleaseEffect, releaseEffect, flushEffect, flushLogEffect, fenceEffect, pruneEffect, evictEffect, evictLogEffect, effect}
-use Rattle.machine.specs.Holds.{threadCount}
-use Rattle.machine.specs.Kinds.{Kind, LOAD, LOG, STORE, ACQUIRE, LOGREL, RELEASE, FLUSH, FLUSHLOG, FENCE, PRUNE, EVICT, EVICTLOG, kindOf, fieldsOf, isOver, inputTests}
+use Rattle.kinds.specs.Kinds.{threadCount, Kind, LOAD, LOG, STORE, ACQUIRE, LOGREL, RELEASE, FLUSH, FLUSHLOG, FENCE, PRUNE, EVICT, EVICTLOG, kindOf, fieldsOf, isOver, inputTests}
 use Rattle.machine.specs.Refusals.{stateTests}
 use Rattle.machine.specs.Runs.{Step, stepWith, after}
 use Rattle.machine.specs.declared.Machine.{Machine}

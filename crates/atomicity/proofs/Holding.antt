@@ -13,15 +13,17 @@ use Rattle.ring.specs.Ring.{isReleasingLock}
 use Rattle.log.specs.declared.Log.{Log}
 use Rattle.ring.specs.declared.Releasing.{Releasing}
 use Rattle.ring.specs.declared.Releasing.the-variants.{Nothing, Lock as ReleasingLock}
-use Rattle.machine.specs.Clocks.{clockAt, joinOf, raisedOf}
-use Rattle.machine.specs.Holds.{threadCount, lockCount, noLog, noLock, noClock, isHeld, isHeldBy}
+use Rattle.accesses.specs.Clocks.{clockAt, joinOf, raisedOf, noClock}
+use Rattle.kinds.specs.Kinds.{threadCount, lockCount}
+use Rattle.machine.specs.Holds.{noLog}
+use Rattle.locks.specs.Locks.{noLock, isHeld, isHeldBy}
 use Rattle.machine.proofs.Beginnings.{AllIdle, releases-nothing}
-use Rattle.machine.specs.declared.Clock.{Clock}
-use Rattle.machine.specs.declared.Holder.{Holder}
-use Rattle.machine.specs.declared.Holder.the-variants.{Nobody, Thread}
-use Rattle.machine.specs.declared.Lock.{Lock}
+use Rattle.accesses.specs.declared.Clock.{Clock}
+use Rattle.locks.specs.declared.Holder.{Holder}
+use Rattle.locks.specs.declared.Holder.the-variants.{Nobody, Thread}
+use Rattle.locks.specs.declared.Lock.{Lock}
 use Rattle.answer.proofs.ListCases.{set-cases, replicate-cases}
-use Rattle.machine.proofs.ClockLaws.{clockAt-join, clockAt-raised-other, clockAt-raised-own}
+use Rattle.accesses.proofs.ClockLaws.{clockAt-join, clockAt-raised-other, clockAt-raised-own}
 use Rattle.atomicity.proofs.ClockInvariant.{numbersOf}
 
 -- the lock that a thread is releasing, and the holder of a lock

@@ -6,13 +6,13 @@ use native.Mathlib.Decide.{decLt, ℕ-discrete}
 use native.Mathlib.Omega.{arith}
 use mathlib.Core.Path.{_≡_, sym, ap, _∙_, subst}
 use mathlib.Core.Logic.{_⊎_, inl, inr, ⊎-elim, by-cases}
-use Rattle.log.specs.Entries.{syncCount}
-use Rattle.log.specs.declared.Event.{Event}
-use Rattle.log.specs.declared.Event.the-variants.{Acquire, Release}
+use Rattle.undo.specs.Events.{syncCount}
+use Rattle.undo.specs.declared.Event.{Event}
+use Rattle.undo.specs.declared.Event.the-variants.{Acquire, Release}
 use Rattle.ring.specs.declared.Releasing.{Releasing}
 use Rattle.ring.specs.declared.Releasing.the-variants.{Nothing, Lock}
-use Rattle.machine.specs.declared.Holder.{Holder}
-use Rattle.machine.specs.declared.Holder.the-variants.{Nobody, Thread}
+use Rattle.locks.specs.declared.Holder.{Holder}
+use Rattle.locks.specs.declared.Holder.the-variants.{Nobody, Thread}
 use Rattle.atomicity.proofs.Logged.{Entries, Made, IsReleaseOf, IsAcquireOf, Keeps, Appends, still-is, was, kept-is, new-is, is-cases}
 
 -- which lock each thread is releasing; each lock's holder, count, and pruned RELEASEs

@@ -12,14 +12,15 @@ use Rattle.answer.specs.declared.Answer.{Answer}
 use Rattle.answer.specs.declared.Answer.the-variants.{Accepted, NoSuchKind, NoSuchThread, NoSuchPlace, UnusedField, LogFull, LsnsUsedUp, Releasing, Race, AlreadyLogged, NotLogged, EntryNotDurable, LockHeld, LockNotHeld, NotReleasing, NothingToPrune, EarlierReleaseNotPruned, CellNotDurable, NoLiveEntry, Unreadable, WrongLength, BadHead, BadEntry, Cyclic}
 use Rattle.answer.proofs.RefusalLaws.{AllFail}
 use Rattle.cache.specs.Cache.{cachedAt}
-use Rattle.log.specs.Entries.{liveCount, liveEvent, appendOf, flushLogOf, endReleaseOf, fenceLogOf, evictSlotOf, pruneOf}
-use Rattle.log.specs.declared.Event.the-variants.{Store, Acquire, Release}
-use Rattle.log.specs.Regions.{isAcquire, isRelease, goesOn, oldestRegion}
+use Rattle.log.specs.Entries.{liveCount, flushLogOf, fenceLogOf, evictSlotOf, dropOf, appendOf}
+use Rattle.undo.specs.Events.{liveEvent, enterOf, endReleaseOf}
+use Rattle.undo.specs.declared.Event.the-variants.{Store, Acquire, Release}
+use Rattle.undo.specs.Regions.{isAcquire, isRelease, goesOn, oldestRegion}
 use Rattle.ring.specs.Ring.{grownTail, flushedTail, fencedTail, releasedTail}
 use Rattle.log.specs.declared.Log.{Log}
 use Rattle.machine.specs.Effects.{loadEffect, logEffect, storeEffect, acquireEffect, logReleaseEffect, releaseEffect, flushEffect, flushLogEffect, fenceEffect, pruneEffect, evictEffect, evictLogEffect, effect}
-use Rattle.machine.specs.Holds.{threadCount, noLog, logOf, lockOf}
-use Rattle.machine.specs.Kinds.{Kind, LOAD, LOG, STORE, ACQUIRE, LOGREL, RELEASE, FLUSH, FLUSHLOG, FENCE, PRUNE, EVICT, EVICTLOG}
+use Rattle.kinds.specs.Kinds.{threadCount, Kind, LOAD, LOG, STORE, ACQUIRE, LOGREL, RELEASE, FLUSH, FLUSHLOG, FENCE, PRUNE, EVICT, EVICTLOG}
+use Rattle.machine.specs.Holds.{noLog, logOf, lockOf}
 use Rattle.machine.specs.Runs.{Step, stepWith, after}
 use Rattle.machine.specs.declared.Machine.{Machine}
 use Rattle.machine.specs.declared.Stepped.{Stepped}
@@ -109,7 +110,7 @@ module _ (machine : Machine) (headed : Headed machine) (kind : ℕ) (stepped : S
 
 -- every effect keeps the balance
 effect-balanced : (machine : Machine) → Headed machine → (kind : Kind) (thread place value : ℕ) → AllFail (testsOf machine kind thread place value) → Balanced machine (kindNumber kind) (effect machine kind thread place value)
-unfolding effect loadEffect logEffect storeEffect acquireEffect logReleaseEffect releaseEffect flushEffect flushLogEffect fenceEffect pruneEffect evictEffect evictLogEffect appendOf grownTail flushLogOf flushedTail endReleaseOf releasedTail fenceLogOf fencedTail evictSlotOf pruneOf
+unfolding effect loadEffect logEffect storeEffect acquireEffect logReleaseEffect releaseEffect flushEffect flushLogEffect fenceEffect pruneEffect evictEffect evictLogEffect appendOf grownTail flushLogOf flushedTail endReleaseOf releasedTail fenceLogOf fencedTail evictSlotOf dropOf
 effect-balanced machine headed kind thread place value fails =
     by-kind
     kind
@@ -119,10 +120,10 @@ effect-balanced machine headed kind thread place value fails =
   where
     by-kind : (kind : Kind) → Sized (effect machine kind thread place value .machine) → thread < threadCount → logOf machine thread .head .0 ≤ logOf machine thread .tail .next .0 → Balanced machine (kindNumber kind) (effect machine kind thread place value)
     by-kind LOAD sized inRange order = balanced-same machine headed 1 _ sized refl refl
-    by-kind LOG sized inRange order = balanced-log machine headed 2 _ sized thread (appendOf (logOf machine thread) (Store place (cachedAt (machine .cache) place))) inRange refl (omega arith) (omega arith)
+    by-kind LOG sized inRange order = balanced-log machine headed 2 _ sized thread (enterOf (logOf machine thread) (Store place (cachedAt (machine .cache) place))) inRange refl (omega arith) (omega arith)
     by-kind STORE sized inRange order = balanced-same machine headed 3 _ sized refl refl
-    by-kind ACQUIRE sized inRange order = balanced-log machine headed 4 _ sized thread (appendOf (logOf machine thread) (Acquire place (lockOf machine place .count))) inRange refl (omega arith) (omega arith)
-    by-kind LOGREL sized inRange order = balanced-log machine headed 5 _ sized thread (appendOf (logOf machine thread) (Release place (lockOf machine place .count))) inRange refl (omega arith) (omega arith)
+    by-kind ACQUIRE sized inRange order = balanced-log machine headed 4 _ sized thread (enterOf (logOf machine thread) (Acquire place (lockOf machine place .count))) inRange refl (omega arith) (omega arith)
+    by-kind LOGREL sized inRange order = balanced-log machine headed 5 _ sized thread (enterOf (logOf machine thread) (Release place (lockOf machine place .count))) inRange refl (omega arith) (omega arith)
     by-kind RELEASE sized inRange order = balanced-log machine headed 6 _ sized thread (endReleaseOf (logOf machine thread)) inRange refl order refl
     by-kind FLUSH sized inRange order = balanced-same machine headed 7 _ sized refl refl
     by-kind FLUSHLOG sized inRange order = balanced-log machine headed 8 _ sized thread (flushLogOf (logOf machine thread)) inRange refl order refl
@@ -130,7 +131,7 @@ effect-balanced machine headed kind thread place value fails =
     by-kind PRUNE sized inRange order =
         let log = logOf machine thread in
         let most = oldest-most log in
-        balanced-log machine headed 10 _ sized thread (pruneOf log (oldestRegion log)) inRange (prune-logs machine thread place value) (omega arith) (omega arith)
+        balanced-log machine headed 10 _ sized thread (dropOf log (oldestRegion log)) inRange (prune-logs machine thread place value) (omega arith) (omega arith)
     by-kind EVICT sized inRange order = balanced-same machine headed 11 _ sized refl refl
     by-kind EVICTLOG sized inRange order = balanced-log machine headed 12 _ sized thread (evictSlotOf (logOf machine thread) place) inRange refl order refl
 

@@ -5,9 +5,9 @@ use native.Mathlib.Decide.{decLt, ℕ-discrete}
 use native.Mathlib.Omega.{arith}
 use mathlib.Core.Path.{_≡_, sym, ap, _∙_}
 use mathlib.Core.Logic.{_⊎_, inl, inr, ⊎-elim, by-cases}
-use Rattle.log.specs.Entries.{syncCount}
-use Rattle.log.specs.declared.Event.{Event}
-use Rattle.log.specs.declared.Event.the-variants.{Acquire, Release}
+use Rattle.undo.specs.Events.{syncCount}
+use Rattle.undo.specs.declared.Event.{Event}
+use Rattle.undo.specs.declared.Event.the-variants.{Acquire, Release}
 
 -- the entries: what each says and the place of its step in the history, by thread and LSN; the last LSN given before the history began, the
 -- next LSN, the head and the last durable LSN of each thread

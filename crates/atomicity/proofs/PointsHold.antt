@@ -8,15 +8,18 @@ use Rattle.answer.specs.Lists.{tab, someBelow, setFrom, mixFrom}
 use Rattle.answer.specs.Refusals.{unless}
 use Rattle.cache.specs.Cache.{cacheOf, storeOf, flushOf, fenceOf, evictOf}
 use Rattle.ring.specs.Ring.{freshTail, grownTail, roomTests, flushedTail, fencedTail, releasedTail}
-use Rattle.log.specs.Entries.{wordsOf, freshLog, isLiveSlot, appendOf, flushLogOf, endReleaseOf, persistSlot, persistFrom, fenceLogOf, evictSlotTests, evictSlotOf, pruneOf}
-use Rattle.log.specs.Regions.{loggedAmong, loggedOf, goesOn, oldestRegion, isFinished}
-use Rattle.stretch.specs.Stretch.{stretchOf, holds, presentFrom, presentOf}
-use Rattle.machine.specs.Clocks.{clockAt, joinOf, raisedOf, loadRaces, logRaces, loadedOf, loggedCellOf}
+use Rattle.log.specs.Entries.{wordsOf, freshLog, isLiveSlot, flushLogOf, persistSlot, persistFrom, fenceLogOf, evictSlotTests, evictSlotOf, dropOf, appendOf}
+use Rattle.undo.specs.Events.{endReleaseOf, eventOf}
+use Rattle.undo.specs.Regions.{loggedAmong, loggedOf, goesOn, oldestRegion, isFinished}
+use Rattle.log.specs.Stretch.{stretchOf, holds, presentFrom, presentOf}
+use Rattle.accesses.specs.Clocks.{clockAt, joinOf, raisedOf, loadedOf, loggedCellOf}
+use Rattle.machine.specs.Clocks.{loadRaces, logRaces}
 use Rattle.machine.specs.Effects.{loadEffect, logEffect, storeEffect, acquireEffect, logReleaseEffect, releaseEffect, flushEffect, flushLogEffect, fenceEffect, pruneEffect, evictEffect, evictLogEffect, effect}
 use Rattle.machine.specs.Holds.{freshMachine, startOf}
 use Rattle.machine.specs.Image.{imageOf}
-use Rattle.machine.specs.Kinds.{kindOf, inputTests}
-use Rattle.machine.specs.Refusals.{loadTests, logTests, storeTests, acquireTests, logReleaseTests, releaseTests, pruneTests, stateTests}
+use Rattle.kinds.specs.Kinds.{kindOf, inputTests}
+use Rattle.machine.specs.Refusals.{loadTests, logTests, storeTests, acquireTests, logReleaseTests, stateTests}
+use Rattle.locks.specs.LockSteps.{releaseTests, pruneTests}
 use Rattle.machine.specs.Runs.{after, answers}
 use Rattle.machine.specs.Steps.{stepOfKind, stepOf}
 use Rattle.recovery.specs.Recover.{isBadHead, isBadEntry, hasBadEntry, recoverTests, recoverOf}
@@ -57,7 +60,7 @@ rows-hold ((found gives asked) ∷ rows) holds =
 
 -- each definition that the table reaches is unfolded
 table-given : T (allGiven table)
-unfolding flatten tab someBelow setFrom mixFrom unless cacheOf storeOf flushOf fenceOf evictOf freshTail grownTail roomTests flushedTail fencedTail releasedTail wordsOf freshLog isLiveSlot appendOf flushLogOf endReleaseOf persistSlot persistFrom fenceLogOf evictSlotTests evictSlotOf pruneOf loggedAmong loggedOf goesOn oldestRegion isFinished stretchOf holds presentFrom presentOf clockAt joinOf raisedOf loadRaces logRaces loadedOf loggedCellOf loadEffect logEffect storeEffect acquireEffect logReleaseEffect releaseEffect flushEffect flushLogEffect fenceEffect pruneEffect evictEffect evictLogEffect effect freshMachine startOf imageOf kindOf inputTests loadTests logTests storeTests acquireTests logReleaseTests releaseTests pruneTests stateTests after answers stepOfKind stepOf isBadHead isBadEntry hasBadEntry recoverTests recoverOf storedLogs hasLaterAcquire mayTakeEntry mayTake lowestFrom takeLast takeNext takeMany undoStart undone hasLeft numbered lent answered lastAnswered outcome recovered imaged emptyImage withEntry logged5 makes nine both tangled stale table same allGiven
+unfolding flatten tab someBelow setFrom mixFrom unless cacheOf storeOf flushOf fenceOf evictOf freshTail grownTail roomTests flushedTail fencedTail releasedTail wordsOf freshLog isLiveSlot appendOf flushLogOf endReleaseOf eventOf persistSlot persistFrom fenceLogOf evictSlotTests evictSlotOf dropOf loggedAmong loggedOf goesOn oldestRegion isFinished stretchOf holds presentFrom presentOf clockAt joinOf raisedOf loadRaces logRaces loadedOf loggedCellOf loadEffect logEffect storeEffect acquireEffect logReleaseEffect releaseEffect flushEffect flushLogEffect fenceEffect pruneEffect evictEffect evictLogEffect effect freshMachine startOf imageOf kindOf inputTests loadTests logTests storeTests acquireTests logReleaseTests releaseTests pruneTests stateTests after answers stepOfKind stepOf isBadHead isBadEntry hasBadEntry recoverTests recoverOf storedLogs hasLaterAcquire mayTakeEntry mayTake lowestFrom takeLast takeNext takeMany undoStart undone hasLeft numbered lent answered lastAnswered outcome recovered imaged emptyImage withEntry logged5 makes nine both tangled stale table same allGiven
 table-given = tt
 
 -- what document 01 asks of P1 to P11 is what the definitions give

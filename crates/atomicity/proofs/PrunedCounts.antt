@@ -9,9 +9,9 @@ use mathlib.Core.Logic.{_⊎_, ⊎-elim, by-cases}
 use lib.ListN.{length}
 use lib.Dec.{ltb}
 use borrow.Author.Tests.{lt-ltb, le-ltb}
-use Rattle.log.specs.Regions.{isRelease}
-use Rattle.log.specs.declared.Event.the-variants.{Release}
-use Rattle.log.specs.declared.SyncCount.{SyncCount}
+use Rattle.undo.specs.Regions.{isRelease}
+use Rattle.undo.specs.declared.Event.the-variants.{Release}
+use Rattle.undo.specs.declared.SyncCount.{SyncCount}
 use Rattle.atomicity.specs.History.{Fed, stepAt}
 use Rattle.atomicity.proofs.Logged.{Entries, Made}
 use Rattle.atomicity.proofs.Ordered.{accepted-inside}

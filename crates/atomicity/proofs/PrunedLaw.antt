@@ -10,19 +10,21 @@ use lib.ListN.{length, getD, set}
 use borrow.Author.Tests.{eq-eqb}
 use Rattle.answer.proofs.RefusalLaws.{AllFail}
 use Rattle.cache.specs.Cache.{cellCount}
-use Rattle.log.specs.Entries.{liveEvent, flushLogOf, endReleaseOf, fenceLogOf, evictSlotOf, pruneOf}
-use Rattle.log.specs.Regions.{isRelease, oldestRegion}
+use Rattle.undo.specs.Events.{liveEvent, endReleaseOf}
+use Rattle.log.specs.Entries.{flushLogOf, fenceLogOf, evictSlotOf, dropOf}
+use Rattle.undo.specs.Regions.{isRelease, oldestRegion}
 use Rattle.ring.specs.Ring.{flushedTail, fencedTail, releasedTail}
-use Rattle.log.specs.declared.Event.{Event}
-use Rattle.log.specs.declared.Event.the-variants.{Empty, Store, Acquire, Release}
+use Rattle.undo.specs.declared.Event.{Event}
+use Rattle.undo.specs.declared.Event.the-variants.{Empty, Store, Acquire, Release}
 use Rattle.log.specs.declared.Log.{Log}
-use Rattle.log.specs.declared.SyncCount.{SyncCount}
-use Rattle.log.proofs.RegionLaws.{live-event}
-use Rattle.machine.specs.Clocks.{loadedOf, loggedCellOf}
+use Rattle.undo.specs.declared.SyncCount.{SyncCount}
+use Rattle.undo.proofs.RegionLaws.{live-event}
+use Rattle.accesses.specs.Clocks.{loadedOf, loggedCellOf}
 use Rattle.machine.specs.Effects.{loadEffect, logEffect, storeEffect, acquireEffect, logReleaseEffect, releaseEffect, flushEffect, flushLogEffect, fenceEffect, pruneEffect, evictEffect, evictLogEffect, countPruned, effect}
-use Rattle.machine.specs.Holds.{noLock, lockOf, withLog}
-use Rattle.machine.specs.Kinds.{Kind, LOAD, LOG, STORE, ACQUIRE, LOGREL, RELEASE, FLUSH, FLUSHLOG, FENCE, PRUNE, EVICT, EVICTLOG}
-use Rattle.machine.specs.declared.Lock.{Lock as LockState}
+use Rattle.locks.specs.Locks.{noLock}
+use Rattle.machine.specs.Holds.{lockOf, withLog}
+use Rattle.kinds.specs.Kinds.{Kind, LOAD, LOG, STORE, ACQUIRE, LOGREL, RELEASE, FLUSH, FLUSHLOG, FENCE, PRUNE, EVICT, EVICTLOG}
+use Rattle.locks.specs.declared.Lock.{Lock as LockState}
 use Rattle.machine.specs.declared.Machine.{Machine}
 use Rattle.machine.proofs.Asked.{acquire-asked, log-release-asked, release-asked, flush-log-asked, fence-asked, evict-log-asked, prune-asked}
 use Rattle.machine.proofs.StepLaws.{testsOf}
@@ -266,7 +268,7 @@ module _ {start : Beginning} {machine : Machine} {history : List Fed} (holds : P
     abbrev last : ℕ
     last = log .head .0 + oldestRegion log - 1
 
-    pruned-one : (event : Event) → was .event thread last ≡ event → Formed event → (lock : ℕ) → PrunedOne (entriesOf start machine was) thread last lock (prunedOf machine lock) (prunedOf (countPruned (withLog machine thread (pruneOf log (oldestRegion log))) event) lock)
+    pruned-one : (event : Event) → was .event thread last ≡ event → Formed event → (lock : ℕ) → PrunedOne (entriesOf start machine was) thread last lock (prunedOf machine lock) (prunedOf (countPruned (withLog machine thread (dropOf log (oldestRegion log))) event) lock)
     pruned-one Empty says formed lock = inr ((λ count ends. true≢false (sym (ap isRelease ends) ∙ ap isRelease says)), refl)
     pruned-one (Store cell old) says formed lock = inr ((λ count ends. true≢false (sym (ap isRelease ends) ∙ ap isRelease says)), refl)
     pruned-one (Acquire other count) says formed lock = inr ((λ larger ends. true≢false (sym (ap isRelease ends) ∙ ap isRelease says)), refl)

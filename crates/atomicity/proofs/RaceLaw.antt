@@ -8,7 +8,7 @@ use native.Mathlib.Omega.{arith}
 use lib.ListN.{length}
 use Rattle.cache.specs.Cache.{cellCount}
 use Rattle.machine.specs.Clocks.{loadRaces, logRaces}
-use Rattle.machine.specs.Holds.{threadCount}
+use Rattle.kinds.specs.Kinds.{threadCount}
 use Rattle.machine.specs.declared.Machine.{Machine}
 use Rattle.atomicity.specs.History.{Fed, stepAt, machineAfter, historyAfter}
 use Rattle.atomicity.specs.HappensBefore.{HappensBefore}

@@ -10,8 +10,10 @@ use lib.ListN.{length, getD}
 use borrow.Author.Tests.{leb-true, leb-false, not-true, not-false}
 use Rattle.answer.proofs.BelowLaws.{someBelow-none, someBelow-found}
 use Rattle.cache.specs.Cache.{cellCount}
-use Rattle.machine.specs.Clocks.{clockAt, accessPlace, loadRaces, logRaces}
-use Rattle.machine.specs.Holds.{threadCount, clockOf}
+use Rattle.accesses.specs.Clocks.{clockAt, accessPlace}
+use Rattle.machine.specs.Clocks.{loadRaces, logRaces}
+use Rattle.kinds.specs.Kinds.{threadCount}
+use Rattle.machine.specs.Holds.{clockOf}
 use Rattle.machine.specs.declared.Machine.{Machine}
 use Rattle.atomicity.specs.History.{Fed, stepAt}
 use Rattle.atomicity.specs.HappensBefore.{HappensBefore, through}

@@ -15,12 +15,13 @@ use Rattle.answer.specs.Lists.{someBelow}
 use Rattle.answer.proofs.BelowLaws.{none-someBelow}
 use Rattle.answer.proofs.ListLaws.{length-tab, getD-tab}
 use Rattle.cache.proofs.CacheLaws as CacheLaws
-use Rattle.log.specs.Entries.{syncCount, kindOf, placeOf, valueOf, wordsOf}
-use Rattle.stretch.specs.Stretch.{headsAt, stretchOf, presentOf}
-use Rattle.log.specs.declared.Event.{Event}
-use Rattle.log.specs.declared.Event.the-variants.{Empty, Store, Acquire, Release}
+use Rattle.undo.specs.Events.{syncCount, kindOf, placeOf, valueOf, payloadOf}
+use Rattle.log.specs.Entries.{wordsOf}
+use Rattle.log.specs.Stretch.{headsAt, stretchOf, presentOf}
+use Rattle.undo.specs.declared.Event.{Event}
+use Rattle.undo.specs.declared.Event.the-variants.{Empty, Store, Acquire, Release}
 use Rattle.log.specs.declared.Log.{Log}
-use Rattle.stretch.proofs.ImageLaws.{Reads}
+use Rattle.log.proofs.StretchLaws.{Reads}
 use Rattle.log.proofs.ImageLaws.{logs-read}
 use Rattle.log.proofs.PresentLaws.{PresentAre, present-are}
 use Rattle.log.proofs.SlotLaws.{WordsAre}
@@ -165,8 +166,8 @@ module _ {start : Beginning} {machine : Machine} {history : List Fed} (whole : W
   abbrev pub end : ℕ → ℕ
   end thread = logAt (machine .logs) thread .head .0 + leftOf left thread
 
-  presents : (thread : ℕ) → thread < 4 → PresentAre (logAt (machine .logs) thread) (ghost .event thread)
-  presents thread inRange = present-are (logAt (machine .logs) thread) (ghost .event thread) (world .logs thread inRange)
+  presents : (thread : ℕ) → thread < 4 → PresentAre (logAt (machine .logs) thread) (λ number. payloadOf (ghost .event thread number))
+  presents thread inRange = present-are (logAt (machine .logs) thread) (λ number. payloadOf (ghost .event thread number)) (world .logs thread inRange)
 
   -- an entry was made by one of the four threads
   made-thread : (thread number : ℕ) → Made entries thread number → thread < 4
@@ -189,7 +190,7 @@ module _ {start : Beginning} {machine : Machine} {history : List Fed} (whole : W
       omega arith
 
   -- the words of a present entry are those of what the thread logged
-  words-at : (thread index : ℕ) → index < leftOf left thread → WordsAre (wordsOf (logAt (machine .logs) thread .persisted)) (logAt (machine .logs) thread .head .0 + index) (ghost .event thread (logAt (machine .logs) thread .head .0 + index))
+  words-at : (thread index : ℕ) → index < leftOf left thread → WordsAre (wordsOf (logAt (machine .logs) thread .persisted)) (logAt (machine .logs) thread .head .0 + index) (payloadOf (ghost .event thread (logAt (machine .logs) thread .head .0 + index)))
   words-at thread index isLeft =
       let inRange = left-thread thread index isLeft in
       presents thread inRange .presentIs index (rw (← left-is thread inRange) isLeft)

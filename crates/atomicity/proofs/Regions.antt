@@ -11,8 +11,8 @@ use mathlib.Core.Logic.{_⊎_, inl, inr, ⊎-elim, by-cases}
 use mathlib.Core.Option.{Option, none, some}
 use lib.Dec.{ltb}
 use lib.ListN.{length}
-use Rattle.log.specs.Regions.{isAcquire, isRelease}
-use Rattle.log.specs.declared.Event.the-variants.{Store}
+use Rattle.undo.specs.Regions.{isAcquire, isRelease}
+use Rattle.undo.specs.declared.Event.the-variants.{Store}
 use Rattle.reference.specs.Reference.{Region, Book, openOf, isOpenOf, joins, joinOpened, isCommittedAt}
 use Rattle.atomicity.proofs.Logged.{Entries, Made, Is, Grows, Keeps, made-kept}
 use Rattle.atomicity.proofs.Cells.{NoBoundaryAfter}

@@ -9,7 +9,7 @@ use mathlib.Core.List.{List}
 use mathlib.Core.Logic.{_⊎_, inl, inr, ⊎-elim, by-cases}
 use lib.Dec.{ltb}
 use borrow.Author.Tests.{lt-ltb, le-ltb, not-true}
-use Rattle.log.specs.Regions.{isAcquire, isRelease}
+use Rattle.undo.specs.Regions.{isAcquire, isRelease}
 use Rattle.reference.specs.Reference.{Region, commitOldest, isCommittedAt}
 use Rattle.atomicity.proofs.Logged.{Entries, Made, Keeps}
 use Rattle.atomicity.proofs.BookLaws.{regionAt, First, test-holds, test-fails, isUncommittedOf, committedOf, commit-length, region-committed, region-uncommitted}

@@ -9,10 +9,10 @@ use mathlib.Core.Logic.{_⊎_, inl, inr, ⊎-elim, by-cases}
 use lib.ListN.{length}
 use lib.Dec.{eqb}
 use borrow.Author.Tests.{eqb-true, eq-eqb}
-use Rattle.log.specs.Regions.{isRelease}
-use Rattle.log.specs.declared.Event.{Event}
-use Rattle.log.specs.declared.Event.the-variants.{Release}
-use Rattle.log.specs.declared.SyncCount.{SyncCount}
+use Rattle.undo.specs.Regions.{isRelease}
+use Rattle.undo.specs.declared.Event.{Event}
+use Rattle.undo.specs.declared.Event.the-variants.{Release}
+use Rattle.undo.specs.declared.SyncCount.{SyncCount}
 use Rattle.atomicity.specs.History.{Fed, stepAt}
 use Rattle.atomicity.proofs.Logged.{Entries, Is, Grows, Keeps, Appends, still-is, kept-is, is-cases, new-is}
 use Rattle.atomicity.proofs.Ordered.{accepted-inside}

@@ -10,18 +10,21 @@ use borrow.Author.Tests.{ltb-true, not-false}
 use Rattle.answer.proofs.RefusalLaws.{AllFail}
 use Rattle.cache.specs.Cache.{cellCount, cachedAt}
 use Rattle.ring.specs.Ring.{grownTail, flushedTail, fencedTail, releasedTail}
-use Rattle.log.specs.Entries.{syncCount, liveEvent, appendOf, flushLogOf, endReleaseOf, fenceLogOf, evictSlotOf, pruneOf}
-use Rattle.log.specs.Regions.{oldestRegion}
-use Rattle.log.specs.declared.Event.{Event}
-use Rattle.log.specs.declared.Event.the-variants.{Empty, Store, Acquire, Release}
+use Rattle.undo.specs.Events.{syncCount, liveEvent, enterOf, endReleaseOf}
+use Rattle.log.specs.Entries.{flushLogOf, fenceLogOf, evictSlotOf, dropOf, appendOf}
+use Rattle.undo.specs.Regions.{oldestRegion}
+use Rattle.undo.specs.declared.Event.{Event}
+use Rattle.undo.specs.declared.Event.the-variants.{Empty, Store, Acquire, Release}
 use Rattle.log.specs.declared.Log.{Log}
-use Rattle.machine.specs.Clocks.{clockAt}
+use Rattle.accesses.specs.Clocks.{clockAt, noClock, startClocks}
+use Rattle.machine.specs.Clocks.{logRaces}
 use Rattle.machine.specs.Effects.{loadEffect, logEffect, storeEffect, acquireEffect, logReleaseEffect, releaseEffect, flushEffect, flushLogEffect, fenceEffect, pruneEffect, countPruned, evictEffect, evictLogEffect, effect}
-use Rattle.machine.specs.Holds.{threadCount, lockCount, logOf, lockOf, clockOf, withLog, noClock, startClocks}
-use Rattle.machine.specs.Kinds.{Kind, LOAD, LOG, STORE, ACQUIRE, LOGREL, RELEASE, FLUSH, FLUSHLOG, FENCE, PRUNE, EVICT, EVICTLOG}
-use Rattle.machine.specs.Refusals.{logTests, acquireTests, logReleaseTests, releaseTests, stateTests}
+use Rattle.kinds.specs.Kinds.{threadCount, lockCount, Kind, LOAD, LOG, STORE, ACQUIRE, LOGREL, RELEASE, FLUSH, FLUSHLOG, FENCE, PRUNE, EVICT, EVICTLOG}
+use Rattle.machine.specs.Holds.{logOf, lockOf, clockOf, withLog}
+use Rattle.machine.specs.Refusals.{logTests, acquireTests, logReleaseTests, stateTests}
+use Rattle.locks.specs.LockSteps.{releaseTests}
 use Rattle.machine.specs.Runs.{Step, after}
-use Rattle.machine.specs.declared.Holder.the-variants.{Nobody, Thread}
+use Rattle.locks.specs.declared.Holder.the-variants.{Nobody, Thread}
 use Rattle.machine.specs.declared.Machine.{Machine}
 use Rattle.machine.proofs.StepLaws.{testsOf}
 use Rattle.machine.proofs.Beginnings.{machineWith, AllIdle, freshLogs, fresh-all, on-start}
@@ -152,15 +155,15 @@ module _ (machine : Machine) (history : List Fed) (follows : Follows machine his
     unfolding effect logReleaseEffect stateTests logReleaseTests appendOf grownTail
     logRelease-kept =
         plain-kept LOGREL (omega arith) refl refl refl (λ isThread fails.
-        held-log (machine .logs) (machine .locks) (machine .clocks) (machine .«lock_clocks») (follows .held) thread (appendOf (logOf machine thread) (Release place (lockOf machine place .count))) (omega (arith, follows .sized .logs))
+        held-log (machine .logs) (machine .locks) (machine .clocks) (machine .«lock_clocks») (follows .held) thread (enterOf (logOf machine thread) (Release place (lockOf machine place .count))) (omega (arith, follows .sized .logs))
         (λ lock isReleasing.
         let sameLock : place ≡ lock = cc in
         rw (← sameLock) (held-by (lockOf machine place .holder) thread (not-false _ (fails .1 .0)))))
 
     prune-kept : Kept PRUNE
-    unfolding effect pruneEffect pruneOf
+    unfolding effect pruneEffect dropOf
     prune-kept =
-        let pruned = pruneOf (logOf machine thread) (oldestRegion (logOf machine thread)) in
+        let pruned = dropOf (logOf machine thread) (oldestRegion (logOf machine thread)) in
         let event = liveEvent (logOf machine thread) (oldestRegion (logOf machine thread) - 1) in
         let uncounted = withLog machine thread pruned in
         let same = pruned-same uncounted event in
@@ -187,7 +190,7 @@ module _ (machine : Machine) (history : List Fed) (follows : Follows machine his
         }
 
     log-kept : Kept LOG
-    unfolding effect logEffect stateTests logTests appendOf grownTail
+    unfolding effect logEffect stateTests logTests appendOf grownTail logRaces
     log-kept fails =
         let isThread = thread-in-range machine LOG thread place value fails in
         let isCell = ltb-true place cellCount (not-false _ (place-in-range machine LOG thread place value fails)) in
@@ -198,7 +201,7 @@ module _ (machine : Machine) (history : List Fed) (follows : Follows machine his
           inRange = range-next next isThread;
           clocked = clocked-plain (machine .clocks) (machine .«lock_clocks») history next (follows .clocked) refl isThread (omega arith) (omega arith);
           accessed = rw (follows .clocked .own thread isThread) (accessed-log history next (machine .accesses) (follows .accessed) refl isThread isCell (follows .sized .stamps) (own-at-most thread isThread place) refl (follows .sized .logged) (follows .sized .loggers) (λ earlier took. log-ordered machine history follows next refl isThread (omega arith) place isCell noRace earlier (took .isAccepted) (inr (took .isSort .0)) (took .isSort .1)));
-          held = held-with thread isThread (appendOf (logOf machine thread) (Store place (cachedAt (machine .cache) place))) refl;
+          held = held-with thread isThread (enterOf (logOf machine thread) (Store place (cachedAt (machine .cache) place))) refl;
         }
 
     acquire-kept : Kept ACQUIRE
@@ -215,11 +218,11 @@ module _ (machine : Machine) (history : List Fed) (follows : Follows machine his
           accessed = accessed-plain history next (machine .accesses) (follows .accessed) (λ isAccess. ⊎-elim (omega arith) (omega arith) isAccess);
           held =
               held-acquire
-              (set (machine .logs) thread (appendOf (logOf machine thread) (Acquire place (lockOf machine place .count))))
+              (set (machine .logs) thread (enterOf (logOf machine thread) (Acquire place (lockOf machine place .count))))
               (machine .locks)
               (machine .clocks)
               (machine .«lock_clocks»)
-              (held-with thread isThread (appendOf (logOf machine thread) (Acquire place (lockOf machine place .count))) refl)
+              (held-with thread isThread (enterOf (logOf machine thread) (Acquire place (lockOf machine place .count))) refl)
               thread
               place
               (record { holder = Thread thread; count = lockOf machine place .count; pruned = lockOf machine place .pruned })

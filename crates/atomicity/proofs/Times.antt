@@ -7,9 +7,9 @@ use mathlib.Core.Bool.{true}
 use mathlib.Core.List.{List}
 use mathlib.Core.Logic.{_⊎_, ⊎-elim}
 use lib.ListN.{length}
-use Rattle.log.specs.declared.Event.{Event}
-use Rattle.log.specs.declared.Event.the-variants.{Store, Acquire, Release}
-use Rattle.log.specs.declared.SyncCount.{SyncCount}
+use Rattle.undo.specs.declared.Event.{Event}
+use Rattle.undo.specs.declared.Event.the-variants.{Store, Acquire, Release}
+use Rattle.undo.specs.declared.SyncCount.{SyncCount}
 use Rattle.atomicity.specs.History.{Fed, stepAt}
 use Rattle.atomicity.proofs.Logged.{Entries, Made, Is, Keeps, Appends, made-kept, kept-is, made-cases, is-cases}
 use Rattle.atomicity.proofs.Places.{lastOf, thenFed, length-then, step-before, step-new, last-before}

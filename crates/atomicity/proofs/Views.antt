@@ -10,10 +10,10 @@ use lib.ListN.{length, getD, set}
 use lib.Seq.{getD-set-same, getD-set-other}
 use lib.Dec.{eqb}
 use borrow.Author.Tests.{eq-eqb, ne-eqb}
-use Rattle.log.specs.Entries.{appendOf}
-use Rattle.log.specs.declared.Event.{Event}
+use Rattle.undo.specs.Events.{payloadOf, closesOf, enterOf}
+use Rattle.undo.specs.declared.Event.{Event}
 use Rattle.log.specs.declared.Log.{Log}
-use Rattle.log.proofs.LogInvariant.{withEvent, withEvent-here, withEvent-other}
+use Rattle.undo.proofs.UndoInvariant.{withEvent, withEvent-here, withEvent-other}
 use Rattle.log.proofs.LogNumbers.{append-numbers}
 use Rattle.machine.specs.Holds.{noLog}
 use Rattle.atomicity.proofs.Logged.{Entries, Keeps, Appends}
@@ -123,10 +123,10 @@ module _ (before : ℕ → ℕ) (logs : List Log) (event : ℕ → ℕ → Event
       (λ differs. ap (λ (f : ℕ → ℕ). f number) (setAt-other time thread (setAt (time thread) (logAt logs thread .tail .next .0) now) other differs))
 
   -- an append is one entry more
-  pub append-view : before thread < logAt logs thread .tail .next .0 → Appends (viewOf before logs event time) (viewOf before (set logs thread (appendOf (logAt logs thread) said)) (eventsThen logs event thread said) (timesThen logs time thread now)) now thread said
+  pub append-view : before thread < logAt logs thread .tail .next .0 → Appends (viewOf before logs event time) (viewOf before (set logs thread (enterOf (logAt logs thread) said)) (eventsThen logs event thread said) (timesThen logs time thread now)) now thread said
   append-view since =
-      let log = appendOf (logAt logs thread) said in
-      let numbers = append-numbers (logAt logs thread) said in
+      let log = enterOf (logAt logs thread) said in
+      let numbers = append-numbers (logAt logs thread) (payloadOf said) (closesOf said) in
       let here = log-same logs thread log inRange in
       let next-here : logAt (set logs thread log) thread .tail .next .0 ≡ suc (logAt logs thread .tail .next .0) = rw here (numbers .nextIs ∙ omega arith) in
       let next-grows = by-log (λ other log. logAt logs other .tail .next .0 ≤ log .tail .next .0) logs thread log inRange (rw (numbers .nextIs) (omega arith)) (λ other differs. omega arith) in

@@ -12,13 +12,14 @@ use mathlib.Core.Option.{Option, none, some}
 use lib.ListN.{length, take}
 use lib.Seq.{take-append-le, take-append-seam}
 use Rattle.answer.proofs.RefusalLaws.{AllFail}
-use Rattle.log.specs.Entries.{flushLogOf, endReleaseOf, fenceLogOf, evictSlotOf}
+use Rattle.log.specs.Entries.{flushLogOf, fenceLogOf, evictSlotOf}
+use Rattle.undo.specs.Events.{endReleaseOf}
 use Rattle.ring.specs.Ring.{flushedTail, fencedTail, releasedTail}
-use Rattle.log.specs.Regions.{isRelease}
-use Rattle.log.specs.declared.Event.{Event}
-use Rattle.machine.specs.Clocks.{loadedOf, loggedCellOf}
+use Rattle.undo.specs.Regions.{isRelease}
+use Rattle.undo.specs.declared.Event.{Event}
+use Rattle.accesses.specs.Clocks.{loadedOf, loggedCellOf}
 use Rattle.machine.specs.Effects.{loadEffect, logEffect, storeEffect, acquireEffect, logReleaseEffect, releaseEffect, flushEffect, flushLogEffect, fenceEffect, evictEffect, evictLogEffect, effect}
-use Rattle.machine.specs.Kinds.{Kind, LOAD, LOG, STORE, ACQUIRE, LOGREL, RELEASE, FLUSH, FLUSHLOG, FENCE, PRUNE, EVICT, EVICTLOG}
+use Rattle.kinds.specs.Kinds.{Kind, LOAD, LOG, STORE, ACQUIRE, LOGREL, RELEASE, FLUSH, FLUSHLOG, FENCE, PRUNE, EVICT, EVICTLOG}
 use Rattle.machine.specs.declared.Machine.{Machine}
 use Rattle.machine.proofs.Asked.{log-asked, acquire-asked, log-release-asked, release-asked, flush-log-asked, fence-asked, evict-log-asked, store-asked, prune-asked}
 use Rattle.machine.proofs.StepLaws.{testsOf}

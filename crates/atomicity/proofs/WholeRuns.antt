@@ -8,14 +8,15 @@ use mathlib.Core.List.{List, []}
 use lib.ListN.{length}
 use Rattle.cache.specs.Cache.{cellCount, cacheOf}
 use Rattle.cache.proofs.CacheLaws as CacheLaws
-use Rattle.log.specs.declared.Event.the-variants.{Empty}
+use Rattle.undo.specs.Events.{payloadOf}
+use Rattle.undo.specs.declared.Event.the-variants.{Empty}
 use Rattle.log.specs.declared.Log.{Log}
 use Rattle.log.proofs.Idle.{idle-holds}
 use Rattle.ring.specs.declared.Releasing.the-variants.{Lock}
 use Rattle.machine.specs.Holds.{lockOf, logOf}
 use Rattle.machine.specs.Runs.{Step, after}
-use Rattle.machine.specs.declared.Holder.the-variants.{Thread}
-use Rattle.machine.specs.declared.Lock.{Lock as LockState}
+use Rattle.locks.specs.declared.Holder.the-variants.{Thread}
+use Rattle.locks.specs.declared.Lock.{Lock as LockState}
 use Rattle.machine.specs.declared.Machine.{Machine}
 use Rattle.machine.proofs.Beginnings.{machineWith, AllIdle, each-log, releases-nothing, lock-free, freshLogs, fresh-all, on-start}
 use Rattle.machine.proofs.Sizes.{begin-sized}
@@ -63,7 +64,7 @@ module _ (cells : List ℕ) (logs : List Log) (isLength : length cells ≡ cellC
   unfolding nothingSaid madeBy cacheOf
   begin-world = record {
     sized = begin-sized cells logs all;
-    logs = λ thread inRange. idle-holds (logAt logs thread) (λ number. Empty) (all .idle thread inRange);
+    logs = λ thread inRange. idle-holds (logAt logs thread) (λ number. payloadOf Empty) (all .idle thread inRange);
     begins = λ thread inRange. omega (arith, all .idle thread inRange .headLeast);
     cacheSized = CacheLaws.cacheOf-sized cells isLength;
     durableKept = CacheLaws.cacheOf-kept cells;

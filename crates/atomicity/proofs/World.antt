@@ -9,9 +9,9 @@ use lib.ListN.{length, getD}
 use Rattle.cache.specs.Cache.{cachedAt, persistedAt}
 use Rattle.cache.specs.declared.Cache.{Cache}
 use Rattle.cache.proofs.CacheLaws as CacheLaws
-use Rattle.log.specs.Regions.{isAcquire, isRelease}
-use Rattle.log.specs.declared.Event.{Event}
-use Rattle.log.proofs.LogInvariant.{LogHolds}
+use Rattle.undo.specs.Regions.{isAcquire, isRelease}
+use Rattle.undo.specs.declared.Event.{Event}
+use Rattle.undo.proofs.UndoInvariant.{UndoHolds}
 use Rattle.machine.specs.Holds.{lockOf}
 use Rattle.machine.specs.declared.Machine.{Machine}
 use Rattle.machine.proofs.Sizes.{Sized}
@@ -63,7 +63,7 @@ pub data HeadAt (entries : Entries) (thread : ℕ) : Type 0 where
 
 pub record World (start : Beginning) (machine : Machine) (history : List Fed) (ghost : Ghost) : Type 0 where
   pub sized : Sized machine
-  pub logs : (thread : ℕ) → thread < 4 → LogHolds (logAt (machine .logs) thread) (ghost .event thread)
+  pub logs : (thread : ℕ) → thread < 4 → UndoHolds (logAt (machine .logs) thread) (ghost .event thread)
   pub begins : (thread : ℕ) → thread < 4 → start .before thread < logAt (machine .logs) thread .head .0
   pub cacheSized : CacheLaws.Sized (machine .cache)
   pub durableKept : CacheLaws.DurableKept (machine .cache)
@@ -104,7 +104,7 @@ pub record QuietStep (start : Beginning) (machine after : Machine) (history : Li
   pub sameEvent : next .event ≡ ghost .event
   pub sameTime : next .time ≡ ghost .time
   pub sized : Sized after
-  pub logs : (thread : ℕ) → thread < 4 → LogHolds (logAt (after .logs) thread) (ghost .event thread)
+  pub logs : (thread : ℕ) → thread < 4 → UndoHolds (logAt (after .logs) thread) (ghost .event thread)
   pub cacheSized : CacheLaws.Sized (after .cache)
   pub durableKept : CacheLaws.DurableKept (after .cache)
   pub keeps : Keeps (entriesOf start machine ghost) (entriesOf start after ghost) (length history)

@@ -12,24 +12,26 @@ use lib.Dec.{eqb}
 use borrow.Author.Tests.{eq-eqb, ne-eqb}
 use Rattle.answer.proofs.RefusalLaws.{AllFail}
 use Rattle.cache.specs.Cache.{cachedAt}
-use Rattle.log.specs.Entries.{syncCount, kindOf, appendTests, appendOf, closesOf}
-use Rattle.log.specs.Regions.{isRelease}
+use Rattle.undo.specs.Events.{syncCount, kindOf, enterOf, closesOf}
+use Rattle.log.specs.Entries.{appendTests, appendOf}
+use Rattle.undo.specs.Regions.{isRelease}
 use Rattle.ring.specs.Ring.{grownTail, closedBy}
-use Rattle.log.specs.declared.Event.{Event}
-use Rattle.log.specs.declared.Event.the-variants.{Empty, Store, Acquire, Release}
+use Rattle.undo.specs.declared.Event.{Event}
+use Rattle.undo.specs.declared.Event.the-variants.{Empty, Store, Acquire, Release}
 use Rattle.log.specs.declared.Log.{Log}
-use Rattle.log.specs.declared.SyncCount.{SyncCount}
+use Rattle.undo.specs.declared.SyncCount.{SyncCount}
 use Rattle.ring.specs.declared.Releasing.the-variants.{Nothing, Lock}
-use Rattle.log.proofs.LogInvariant.{LogHolds, withEvent, append-holds}
-use Rattle.log.proofs.LoggedLaws.{logged-nowhere}
-use Rattle.machine.specs.Clocks.{loggedCellOf}
+use Rattle.undo.proofs.UndoInvariant.{UndoHolds, withEvent, enter-holds}
+use Rattle.undo.proofs.LoggedLaws.{logged-nowhere}
+use Rattle.accesses.specs.Clocks.{loggedCellOf}
 use Rattle.machine.specs.Effects.{logEffect, acquireEffect, logReleaseEffect, effect}
-use Rattle.machine.specs.Holds.{noLock, lockOf}
-use Rattle.machine.specs.Kinds.{LOG, ACQUIRE, LOGREL}
-use Rattle.machine.specs.declared.Accesses.{Accesses}
-use Rattle.machine.specs.declared.Clock.{Clock}
-use Rattle.machine.specs.declared.Holder.the-variants.{Thread}
-use Rattle.machine.specs.declared.Lock.{Lock as LockState}
+use Rattle.locks.specs.Locks.{noLock}
+use Rattle.machine.specs.Holds.{lockOf}
+use Rattle.kinds.specs.Kinds.{LOG, ACQUIRE, LOGREL}
+use Rattle.accesses.specs.declared.Accesses.{Accesses}
+use Rattle.accesses.specs.declared.Clock.{Clock}
+use Rattle.locks.specs.declared.Holder.the-variants.{Thread}
+use Rattle.locks.specs.declared.Lock.{Lock as LockState}
 use Rattle.machine.specs.declared.Machine.{Machine}
 use Rattle.machine.proofs.Asked.{LogAsked, log-asked, acquire-asked, log-release-asked}
 use Rattle.machine.proofs.Sizes.{Sized, effect-sized}
@@ -97,7 +99,7 @@ module _ {start : Beginning} {machine : Machine} {history : List Fed} {ghost : G
   abbrev log : Log
   log = logAt (machine .logs) thread
 
-  holds : LogHolds log (ghost .event thread)
+  holds : UndoHolds log (ghost .event thread)
   holds = world .logs thread inRange
 
   inLogs : thread < length (machine .logs)
@@ -105,7 +107,7 @@ module _ {start : Beginning} {machine : Machine} {history : List Fed} {ghost : G
 
   -- the logs, and what entries said and when, after the append
   abbrev pub logsThen : List Log
-  logsThen = set (machine .logs) thread (appendOf log event)
+  logsThen = set (machine .logs) thread (enterOf log event)
 
   abbrev pub eventThen : ℕ → ℕ → Event
   eventThen = eventsThen (machine .logs) (ghost .event) thread event
@@ -119,16 +121,16 @@ module _ {start : Beginning} {machine : Machine} {history : List Fed} {ghost : G
   pub appends : Appends (entriesOf start machine ghost) entriesThen (length history) thread event
   appends = let since = world .begins thread inRange in let within = holds .headNext in append-view (start .before) (machine .logs) (ghost .event) (ghost .time) (length history) thread event inLogs (omega arith)
 
-  pub logs-append : (other : ℕ) → other < 4 → LogHolds (logAt logsThen other) (eventThen other)
+  pub logs-append : (other : ℕ) → other < 4 → UndoHolds (logAt logsThen other) (eventThen other)
   logs-append =
       by-log
-      (λ other log. other < 4 → LogHolds log (eventThen other))
+      (λ other log. other < 4 → UndoHolds log (eventThen other))
       (machine .logs)
       thread
-      (appendOf log event)
+      (enterOf log event)
       inLogs
-      (λ _. subst (λ (said : ℕ → Event). LogHolds (appendOf log event) said) (sym (setAt-here (ghost .event) thread (withEvent (ghost .event thread) (log .tail .next .0) event))) (append-holds log (ghost .event thread) holds event room))
-      (λ other differs within. subst (λ (said : ℕ → Event). LogHolds (logAt (machine .logs) other) said) (sym (setAt-other (ghost .event) thread (withEvent (ghost .event thread) (log .tail .next .0) event) other differs)) (world .logs other within))
+      (λ _. subst (λ (said : ℕ → Event). UndoHolds (enterOf log event) said) (sym (setAt-here (ghost .event) thread (withEvent (ghost .event thread) (log .tail .next .0) event))) (enter-holds log (ghost .event thread) holds event room))
+      (λ other differs within. subst (λ (said : ℕ → Event). UndoHolds (logAt (machine .logs) other) said) (sym (setAt-other (ghost .event) thread (withEvent (ghost .event thread) (log .tail .next .0) event) other differs)) (world .logs other within))
 
   pub heads-append : (other : ℕ) → other < 4 → HeadAt entriesThen other
   heads-append other within =
@@ -144,10 +146,10 @@ module _ {start : Beginning} {machine : Machine} {history : List Fed} {ghost : G
 
   pub releasing-append : logAt logsThen thread .tail .releasing ≡ closedBy (log .tail .releasing) (closesOf event)
   unfolding appendOf grownTail
-  releasing-append = ap (λ (l : Log). l .tail .releasing) (log-same (machine .logs) thread (appendOf log event) inLogs)
+  releasing-append = ap (λ (l : Log). l .tail .releasing) (log-same (machine .logs) thread (enterOf log event) inLogs)
 
   pub releasing-other : (other : ℕ) → (other ≡ thread → ⊥) → logAt logsThen other .tail .releasing ≡ logAt (machine .logs) other .tail .releasing
-  releasing-other other differs = ap (λ (l : Log). l .tail .releasing) (log-other (machine .logs) thread other (appendOf log event) differs)
+  releasing-other other differs = ap (λ (l : Log). l .tail .releasing) (log-other (machine .logs) thread other (enterOf log event) differs)
 
   module _ {kind place : ℕ} (value : ℕ) {locks : List LockState} (step : AppendStep machine thread kind place event locks) where
     -- the step, accepted
@@ -328,7 +330,7 @@ module _ {start : Beginning} {machine : Machine} {history : List Fed} {ghost : G
       (record { thread = thread; lsn = logAt (machine .logs) thread .tail .next .0; after = cachedAt (machine .cache) place } ∷ ghost .versions place)
 
   abbrev pub loggedEntries : Entries
-  loggedEntries = viewOf (start .before) (set (machine .logs) thread (appendOf (logAt (machine .logs) thread) storeEntry)) (ghostThen storeEntry loggedVersions .event) (ghostThen storeEntry loggedVersions .time)
+  loggedEntries = viewOf (start .before) (set (machine .logs) thread (enterOf (logAt (machine .logs) thread) storeEntry)) (ghostThen storeEntry loggedVersions .event) (ghostThen storeEntry loggedVersions .time)
 
   -- no entry is empty
   formed-not-empty : {event : Event} → Formed event → event ≡ Empty → ⊥

@@ -12,22 +12,24 @@ use borrow.Author.Tests.{ltb-true, ltb-false, eqb-false, not-true, not-false}
 use Rattle.answer.proofs.RefusalLaws.{AllFail}
 use Rattle.answer.proofs.BelowLaws.{someBelow-none}
 use Rattle.cache.specs.Cache.{isDurable}
-use Rattle.log.specs.Entries.{syncCount, liveCount, liveEvent, pruneOf}
-use Rattle.log.specs.Regions.{isAcquire, isRelease, oldestRegion, isFinished}
+use Rattle.undo.specs.Events.{syncCount, liveEvent}
+use Rattle.log.specs.Entries.{liveCount, dropOf}
+use Rattle.undo.specs.Regions.{isAcquire, isRelease, oldestRegion, isFinished}
 use Rattle.ring.specs.Ring.{isReleasing}
-use Rattle.log.specs.declared.Event.{Event}
-use Rattle.log.specs.declared.Event.the-variants.{Empty, Store, Acquire, Release}
+use Rattle.undo.specs.declared.Event.{Event}
+use Rattle.undo.specs.declared.Event.the-variants.{Empty, Store, Acquire, Release}
 use Rattle.log.specs.declared.Log.{Log}
-use Rattle.log.specs.declared.SyncCount.{SyncCount}
+use Rattle.undo.specs.declared.SyncCount.{SyncCount}
 use Rattle.ring.specs.declared.Releasing.{Releasing}
 use Rattle.ring.specs.declared.Releasing.the-variants.{Nothing, Lock}
-use Rattle.log.proofs.LogInvariant.{LogHolds, prune-holds}
-use Rattle.log.proofs.RegionLaws.{RegionIs, live-event, oldest-region}
+use Rattle.undo.proofs.UndoInvariant.{UndoHolds, prune-holds}
+use Rattle.undo.proofs.RegionLaws.{RegionIs, live-event, oldest-region}
 use Rattle.machine.specs.Effects.{pruneEffect, countPruned, effect}
-use Rattle.machine.specs.Holds.{noLock, lockOf, withLog}
-use Rattle.machine.specs.Kinds.{PRUNE}
-use Rattle.machine.specs.Refusals.{awaitsRelease, logsUndurable}
-use Rattle.machine.specs.declared.Lock.{Lock as LockState}
+use Rattle.locks.specs.Locks.{noLock}
+use Rattle.machine.specs.Holds.{lockOf, withLog}
+use Rattle.kinds.specs.Kinds.{PRUNE}
+use Rattle.locks.specs.LockSteps.{awaitsRelease, logsUndurable}
+use Rattle.locks.specs.declared.Lock.{Lock as LockState}
 use Rattle.machine.specs.declared.Machine.{Machine}
 use Rattle.machine.proofs.Asked.{PruneAsked, prune-asked}
 use Rattle.machine.proofs.StepLaws.{testsOf}
@@ -89,7 +91,7 @@ module _ {start : Beginning} {machine : Machine} {history : List Fed} {ghost : G
   abbrev size : ℕ
   size = oldestRegion log
 
-  holds : LogHolds log (ghost .event thread)
+  holds : UndoHolds log (ghost .event thread)
   holds = world .logs thread (asked .inThread)
 
   region : RegionIs log (ghost .event thread) size
@@ -122,28 +124,28 @@ module _ {start : Beginning} {machine : Machine} {history : List Fed} {ghost : G
 
   -- the machine with the head moved, before the counter for 16
   abbrev moved : Machine
-  moved = withLog machine thread (pruneOf log size)
+  moved = withLog machine thread (dropOf log size)
 
-  moved-log : logAt (moved .logs) thread ≡ pruneOf log size
-  moved-log = log-same (machine .logs) thread (pruneOf log size) inLogs
+  moved-log : logAt (moved .logs) thread ≡ dropOf log size
+  moved-log = log-same (machine .logs) thread (dropOf log size) inLogs
 
   moved-head : logAt (moved .logs) thread .head .0 ≡ log .head .0 + size
-  unfolding pruneOf
+  unfolding dropOf
   moved-head = ap (λ (l : Log). l .head .0) moved-log
 
   pub moved-keeps : Keeps (entriesOf start machine ghost) (entriesOf start moved ghost) (length history)
-  unfolding pruneOf
-  moved-keeps = keep-view (start .before) (machine .logs) (ghost .event) (ghost .time) (length history) thread (pruneOf log size) inLogs refl (omega arith) (omega arith)
+  unfolding dropOf
+  moved-keeps = keep-view (start .before) (machine .logs) (ghost .event) (ghost .time) (length history) thread (dropOf log size) inLogs refl (omega arith) (omega arith)
 
   head-other : (other : ℕ) → (other ≡ thread → ⊥) → logAt (moved .logs) other .head .0 ≡ logAt (machine .logs) other .head .0
-  head-other other differs = ap (λ (l : Log). l .head .0) (log-other (machine .logs) thread other (pruneOf log size) differs)
+  head-other other differs = ap (λ (l : Log). l .head .0) (log-other (machine .logs) thread other (dropOf log size) differs)
 
   releasing-same : (other : ℕ) → logAt (moved .logs) other .tail .releasing ≡ logAt (machine .logs) other .tail .releasing
-  unfolding pruneOf
-  releasing-same = by-log (λ other l. l .tail .releasing ≡ logAt (machine .logs) other .tail .releasing) (machine .logs) thread (pruneOf log size) inLogs refl (λ other differs. refl)
+  unfolding dropOf
+  releasing-same = by-log (λ other l. l .tail .releasing ≡ logAt (machine .logs) other .tail .releasing) (machine .logs) thread (dropOf log size) inLogs refl (λ other differs. refl)
 
-  logs-moved : (other : ℕ) → other < 4 → LogHolds (logAt (moved .logs) other) (ghost .event other)
-  logs-moved = by-log (λ other l. other < 4 → LogHolds l (ghost .event other)) (machine .logs) thread (pruneOf log size) inLogs (λ _. prune-holds log (ghost .event thread) holds size within-log within-durable) (λ other differs. world .logs other)
+  logs-moved : (other : ℕ) → other < 4 → UndoHolds (logAt (moved .logs) other) (ghost .event other)
+  logs-moved = by-log (λ other l. other < 4 → UndoHolds l (ghost .event other)) (machine .logs) thread (dropOf log size) inLogs (λ _. prune-holds log (ghost .event thread) holds size within-log within-durable) (λ other differs. world .logs other)
 
   -- the head then stands where the next region begins
   head-moved : HeadAt (entriesOf start moved ghost) thread
@@ -371,9 +373,9 @@ world-prune {machine} world thread place value fails =
     refl
 
 -- PRUNE changes the thread's log by moving its head, whatever the counter for 16
-pub prune-logs : (machine : Machine) (thread place value : ℕ) → effect machine PRUNE thread place value .machine .logs ≡ set (machine .logs) thread (pruneOf (logAt (machine .logs) thread) (oldestRegion (logAt (machine .logs) thread)))
+pub prune-logs : (machine : Machine) (thread place value : ℕ) → effect machine PRUNE thread place value .machine .logs ≡ set (machine .logs) thread (dropOf (logAt (machine .logs) thread) (oldestRegion (logAt (machine .logs) thread)))
 unfolding effect pruneEffect
-prune-logs machine thread place value = counted (withLog machine thread (pruneOf (logAt (machine .logs) thread) (oldestRegion (logAt (machine .logs) thread)))) (liveEvent (logAt (machine .logs) thread) (oldestRegion (logAt (machine .logs) thread) - 1))
+prune-logs machine thread place value = counted (withLog machine thread (dropOf (logAt (machine .logs) thread) (oldestRegion (logAt (machine .logs) thread)))) (liveEvent (logAt (machine .logs) thread) (oldestRegion (logAt (machine .logs) thread) - 1))
   where
     counted : (moved : Machine) (last : Event) → countPruned moved last .logs ≡ moved .logs
     counted moved Empty = refl
@@ -383,7 +385,7 @@ prune-logs machine thread place value = counted (withLog machine thread (pruneOf
 
 pub prune-cache : (machine : Machine) (thread place value : ℕ) → effect machine PRUNE thread place value .machine .cache ≡ machine .cache
 unfolding effect pruneEffect
-prune-cache machine thread place value = counted (withLog machine thread (pruneOf (logAt (machine .logs) thread) (oldestRegion (logAt (machine .logs) thread)))) (liveEvent (logAt (machine .logs) thread) (oldestRegion (logAt (machine .logs) thread) - 1))
+prune-cache machine thread place value = counted (withLog machine thread (dropOf (logAt (machine .logs) thread) (oldestRegion (logAt (machine .logs) thread)))) (liveEvent (logAt (machine .logs) thread) (oldestRegion (logAt (machine .logs) thread) - 1))
   where
     counted : (moved : Machine) (last : Event) → countPruned moved last .cache ≡ moved .cache
     counted moved Empty = refl

@@ -15,15 +15,15 @@ use Rattle.cache.specs.declared.Cache.{Cache}
 use Rattle.cache.proofs.CacheLaws as CacheLaws
 use Rattle.log.specs.Entries.{flushLogOf, fenceLogOf, evictSlotOf}
 use Rattle.ring.specs.Ring.{flushedTail, fencedTail}
-use Rattle.log.specs.declared.Event.the-variants.{Store}
+use Rattle.undo.specs.declared.Event.the-variants.{Store}
 use Rattle.log.specs.declared.Log.{Log}
-use Rattle.log.proofs.LogInvariant.{LogHolds, flush-holds, fence-holds, evict-holds}
-use Rattle.log.proofs.LoggedLaws.{logged-at}
-use Rattle.machine.specs.Clocks.{loadedOf}
+use Rattle.undo.proofs.UndoInvariant.{UndoHolds, flush-holds, fence-holds, evict-holds}
+use Rattle.undo.proofs.LoggedLaws.{logged-at}
+use Rattle.accesses.specs.Clocks.{loadedOf}
 use Rattle.machine.specs.Effects.{loadEffect, storeEffect, flushEffect, flushLogEffect, fenceEffect, evictEffect, evictLogEffect, effect}
 use Rattle.machine.specs.Holds.{withLog, withCache, withAccesses}
-use Rattle.machine.specs.declared.Accesses.{Accesses}
-use Rattle.machine.specs.Kinds.{LOAD, STORE, FLUSH, FLUSHLOG, FENCE, EVICT, EVICTLOG}
+use Rattle.accesses.specs.declared.Accesses.{Accesses}
+use Rattle.kinds.specs.Kinds.{LOAD, STORE, FLUSH, FLUSHLOG, FENCE, EVICT, EVICTLOG}
 use Rattle.machine.specs.declared.Machine.{Machine}
 use Rattle.machine.proofs.Asked.{load-asked, store-asked, flush-asked, flush-log-asked, fence-asked, evict-asked, evict-log-asked}
 use Rattle.machine.proofs.Sizes.{Sized, effect-sized}
@@ -170,12 +170,12 @@ module _ {start : Beginning} {machine : Machine} {history : List Fed} {ghost : G
         (cache-cells (evictOf (machine .cache) place) (CacheLaws.evictOf-cached (machine .cache) (world .cacheSized) place) (λ cell. kept-or-same (eqb (lineOf cell) place) (cachedAt (machine .cache) cell) (persistedAt (machine .cache) cell) (CacheLaws.evictOf-persisted (machine .cache) (world .cacheSized) place cell)) machine (same-view (entriesOf start machine ghost) (length history)) (λ other. refl))
 
     -- a change of the thread's log that makes no entry, moves no head and leaves the lock being released
-    module _ (log : Log) (inRange : thread < 4) (holds : LogHolds log (ghost .event thread)) (nextSame : log .tail .next .0 ≡ logAt (machine .logs) thread .tail .next .0) (headIs : log .head .0 ≡ logAt (machine .logs) thread .head .0) (durableGrows : logAt (machine .logs) thread .tail .durable .0 ≤ log .tail .durable .0) (releasingIs : log .tail .releasing ≡ logAt (machine .logs) thread .tail .releasing) where
+    module _ (log : Log) (inRange : thread < 4) (holds : UndoHolds log (ghost .event thread)) (nextSame : log .tail .next .0 ≡ logAt (machine .logs) thread .tail .next .0) (headIs : log .head .0 ≡ logAt (machine .logs) thread .head .0) (durableGrows : logAt (machine .logs) thread .tail .durable .0 ≤ log .tail .durable .0) (releasingIs : log .tail .releasing ≡ logAt (machine .logs) thread .tail .releasing) where
       inLogs : thread < length (machine .logs)
       inLogs = rw (world .sized .logs) inRange
 
-      logs-then : (other : ℕ) → other < 4 → LogHolds (logAt (set (machine .logs) thread log) other) (ghost .event other)
-      logs-then = by-log (λ other log. other < 4 → LogHolds log (ghost .event other)) (machine .logs) thread log inLogs (λ _. holds) (λ other differs. world .logs other)
+      logs-then : (other : ℕ) → other < 4 → UndoHolds (logAt (set (machine .logs) thread log) other) (ghost .event other)
+      logs-then = by-log (λ other log. other < 4 → UndoHolds log (ghost .event other)) (machine .logs) thread log inLogs (λ _. holds) (λ other differs. world .logs other)
 
       keeps-then : Keeps (entriesOf start machine ghost) (entriesOf start (withLog machine thread log) ghost) (length history)
       keeps-then = keep-view (start .before) (machine .logs) (ghost .event) (ghost .time) (length history) thread log inLogs nextSame (omega (arith, headIs)) durableGrows

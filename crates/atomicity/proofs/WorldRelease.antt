@@ -7,15 +7,15 @@ use mathlib.Core.List.{List}
 use lib.ListN.{length}
 use lib.Dec.{eqb}
 use Rattle.answer.proofs.RefusalLaws.{AllFail}
-use Rattle.log.specs.Entries.{syncCount, endReleaseOf}
+use Rattle.undo.specs.Events.{syncCount, endReleaseOf}
 use Rattle.ring.specs.Ring.{isReleasing, releasedTail}
 use Rattle.log.specs.declared.Log.{Log}
-use Rattle.log.proofs.LogInvariant.{LogHolds, release-holds}
+use Rattle.undo.proofs.UndoInvariant.{UndoHolds, release-holds}
 use Rattle.machine.specs.Effects.{releaseEffect, effect}
 use Rattle.machine.specs.Holds.{lockOf}
-use Rattle.machine.specs.Kinds.{RELEASE}
-use Rattle.machine.specs.declared.Holder.the-variants.{Nobody}
-use Rattle.machine.specs.declared.Lock.{Lock as LockState}
+use Rattle.kinds.specs.Kinds.{RELEASE}
+use Rattle.locks.specs.declared.Holder.the-variants.{Nobody}
+use Rattle.locks.specs.declared.Lock.{Lock as LockState}
 use Rattle.machine.specs.declared.Machine.{Machine}
 use Rattle.machine.proofs.Asked.{release-asked}
 use Rattle.machine.proofs.Sizes.{effect-sized}
@@ -66,7 +66,7 @@ module _ {start : Beginning} {machine : Machine} {history : List Fed} {ghost : G
       let atLast : madeBy (start .before) (thenFed history fed) thread (suc (length history)) ≡ last .0 = made-new history fed (start .before) thread ∙ rw (and-false (eqb thread thread)) (omega arith) in
       record {
         sized = effect-sized machine (world .sized) RELEASE thread place value fails;
-        logs = by-log (λ other l. other < 4 → LogHolds l (ghost .event other)) (machine .logs) thread (endReleaseOf log) inLogs (λ _. release-holds log (ghost .event thread) holds) (λ other differs. world .logs other);
+        logs = by-log (λ other l. other < 4 → UndoHolds l (ghost .event other)) (machine .logs) thread (endReleaseOf log) inLogs (λ _. release-holds log (ghost .event thread) holds) (λ other differs. world .logs other);
         begins = λ other inRange. let same = heads other in let was = world .begins other inRange in omega arith;
         cacheSized = world .cacheSized;
         durableKept = world .durableKept;

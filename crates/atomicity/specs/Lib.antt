@@ -6,4 +6,3 @@ pub mod Demand3
 pub mod AnyOrder
 pub mod LogSum
 pub mod Points
-pub mod Replay

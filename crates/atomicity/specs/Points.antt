@@ -8,7 +8,7 @@ use Rattle.answer.specs.Lists.{tab}
 use Rattle.answer.specs.Refusals.{Outcome}
 use Rattle.cache.specs.Cache.{cellCount}
 use Rattle.ring.specs.Ring.{slotOf}
-use Rattle.stretch.specs.Stretch.{entryWords, imageWords, headsAt, stretchAt}
+use Rattle.log.specs.Stretch.{entryWords, imageWords, headsAt, stretchAt}
 use Rattle.machine.specs.Image.{imageOf}
 use Rattle.machine.specs.Runs.{Step, answers}
 use Rattle.recovery.specs.Recover.{recoverOf}

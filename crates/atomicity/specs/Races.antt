@@ -9,7 +9,8 @@ use lib.ListN.{length}
 use lib.Dec.{eqb}
 use Rattle.cache.specs.Cache.{cellCount}
 use Rattle.machine.specs.Clocks.{loadRaces, logRaces}
-use Rattle.machine.specs.Holds.{threadCount, lockCount, lockOf}
+use Rattle.kinds.specs.Kinds.{threadCount, lockCount}
+use Rattle.machine.specs.Holds.{lockOf}
 use Rattle.machine.specs.Runs.{Step}
 use Rattle.reference.specs.Reference.{Book, emptyBook, joins, isCommittedAt}
 use Rattle.atomicity.specs.History.{Fed, stepAt, fedBook, startCells, machineAfter, historyAfter, bookBefore}

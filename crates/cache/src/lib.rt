@@ -5,7 +5,7 @@ ghost use Prim.Native.Nat.{_*_, _%_, _<_};
 ghost use lib.ListN.{length};
 ghost use lib.Dec.{eqb};
 ghost use Rattle.answer.specs.Lists.{setFrom, mixFrom};
-ghost use Rattle.cache.specs.Cache.{cellCount, lineCount, threadCount, lineOf, cacheOf, cachedAt, isDurable, storeOf, flushOf, fenceOf, evictOf, persistedInto};
+ghost use Rattle.cache.specs.Cache.{cellCount, lineCount, threadCount, lineOf, cacheOf, isDurable, storeOf, flushOf, fenceOf, evictOf, persistedInto};
 
 // The cells, of 64 bits each.
 const CELLS: usize = 128;
@@ -22,13 +22,13 @@ const THREADS: usize = 4;
 // What each cell holds, and which flushes a fence has yet to complete.
 pub struct Cache {
     // Document 01's seen content of each cell, which a cut loses.
-    cached: [u64; CELLS],
+    pub cached: [u64; CELLS],
     // Document 01's kept content of each cell.
-    persisted: [u64; CELLS],
+    pub persisted: [u64; CELLS],
     // Whether each cell is durable (document 01: firm).
-    durable: [bool; CELLS],
+    pub durable: [bool; CELLS],
     // Whether each thread has a pending flush (document 01: a mark) of each line: thread 0's 16 lines, then thread 1's, and so on.
-    pending: [bool; THREADS * LINES],
+    pub pending: [bool; THREADS * LINES],
 }
 
 // Copies the eight cells of a line.
@@ -80,14 +80,6 @@ impl Cache {
             durable: [true; CELLS],
             pending: [false; THREADS * LINES],
         }
-    }
-
-    // The cached content of a cell, and 0 past the last cell.
-    pub fn load(self, cell: usize) -> u64
-        ensures { λ r. ⌜ r ≡ cachedAt self cell ⌝ }
-    {
-        let contents = self.cached;
-        if cell < CELLS { contents[cell] } else { 0 }
     }
 
     // Whether a cell is durable; past the last cell none is.

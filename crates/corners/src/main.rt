@@ -1,9 +1,11 @@
 // Runs listings on the machine and on the model, with cuts, and says whether the two agree: the corner point that is not marked P, and
 // generated listings.
 ghost use mathlib.Core.Path.{_≡_};
-ghost use Prim.Native.Nat.{_≤_, _<_};
 ghost use lib.ListN.{length};
 ghost use Rattle.machine.specs.Runs.{Reached};
+
+mod model;
+
 use machine::Machine;
 
 // The steps of a generated listing.
@@ -241,7 +243,8 @@ fn region_step(thread: usize, stage: usize, chance: u64) -> Step {
     }
 }
 
-// The thread whose turn it is in a generated listing: each takes a whole region, three steps or one step in a row, by the listing's number.
+// The thread whose turn it is in a generated listing: each takes a whole region, three steps or one step in a row, by the listing's
+// number.
 fn thread_at(listing: u64, done: usize) -> usize {
     if listing % 3 == 0 {
         return done / 12 % 4;
@@ -321,7 +324,7 @@ fn answers(steps: &[u64], count: usize, number: u64) -> bool {
     }
     let start = [0u64; 128];
     let end = count * 4;
-    let stepped = atomicity::run(&start, &steps[..end]);
+    let stepped = replay::run(&start, &steps[..end]);
     let answer = stepped.answer;
     answer::number(answer) == number
 }

@@ -16,7 +16,7 @@ use Rattle.machine.specs.declared.Machine.{Machine}
 use Rattle.recovery.specs.Recover.{recoverTests, recoverOf}
 use Rattle.recovery.specs.Undo.{threadCount, StoredLog, storedLogs, storedLog, entryKind, entryPlace, entryValue, Undo, leftOf, lowestFrom, takeLast, takeFrom, takeNext, takeMany, undoStart, undone}
 use Rattle.listing.specs.Transcript.{recoveredCells}
-use Rattle.stretch.specs.Stretch.{headsAt}
+use Rattle.log.specs.Stretch.{headsAt}
 
 -- a cut into a buffer of 1,156 words writes the image
 cut-whole : (machine : Machine) → cutOf machine (replicate 1156 0) .buffer ≡ imageOf machine

@@ -9,15 +9,16 @@ use Rattle.answer.specs.declared.Answer.the-variants.{Accepted}
 use Rattle.ring.specs.Ring.{slotOf, growOf}
 use Rattle.ring.specs.declared.Grown.{Grown}
 use Rattle.ring.proofs.Room.{Decided, decided}
-use Rattle.log.specs.Entries.{entryOf, closesOf, appendOf, appendedOf}
-use Rattle.log.specs.declared.Event.{Event}
+use Rattle.log.specs.Entries.{entryOf, appendOf, appendedOf}
+use Rattle.ring.specs.declared.Releasing.{Releasing}
 use Rattle.log.specs.declared.Log.{Log}
+use Rattle.log.specs.declared.Payload.{Payload}
 
-module _ (log : Log) (event : Event) where
+module _ (log : Log) (payload : Payload) (closes : Releasing) where
   -- the log with the entry, and with the record that the append left
   abbrev pub withEntry : Grown → Log
   withEntry grown = record {
-    cached = set (log .cached) (slotOf (log .tail .next .0)) (record { entry = entryOf (log .tail .next) event });
+    cached = set (log .cached) (slotOf (log .tail .next .0)) (entryOf (log .tail .next) payload);
     persisted = log .persisted;
     head = log .head;
     tail = grown .tail;
@@ -26,24 +27,25 @@ module _ (log : Log) (event : Event) where
   -- the append to the record and the one to the log go one way
   ways : Decided
       (λ answer. record { answer = answer; log = log })
-      (record { answer = Accepted (log .tail .next .0); log = appendOf log event })
+      (record { answer = Accepted (log .tail .next .0); log = appendOf log payload closes })
       (log .tail)
       (log .head .0)
-      (closesOf event)
-      (growOf (log .tail) (log .head .0) (closesOf event))
-      (appendedOf log event)
+      closes
+      (growOf (log .tail) (log .head .0) closes)
+      (appendedOf log payload closes)
   unfolding appendedOf
-  ways = decided _ _ (log .tail) (log .head .0) (closesOf event)
+  ways = decided _ _ (log .tail) (log .head .0) closes
 
-  module _ (grown : Grown) (e : grown ≡ growOf (log .tail) (log .head .0) (closesOf event)) where
-    pub append-refused : (numberOf (grown .answer) ≡ 0 → ⊥) → record { answer = grown .answer; log = log } ≡ appendedOf log event
+  module _ (grown : Grown) (e : grown ≡ growOf (log .tail) (log .head .0) closes) where
+    pub append-refused : (numberOf (grown .answer) ≡ 0 → ⊥) → record { answer = grown .answer; log = log } ≡ appendedOf log payload closes
     append-refused refusal =
         ⊎-elim
         (λ accepted. absurd (refusal (ap (λ g. numberOf (g .answer)) (e ∙ accepted .0))))
         (λ refused. rw e (sym (refused .2)))
         ways
 
-    pub append-accepted : numberOf (grown .answer) ≡ 0 → record { answer = grown .answer; log = withEntry grown } ≡ appendedOf log event
+    pub append-accepted : numberOf (grown .answer) ≡ 0
+        → record { answer = grown .answer; log = withEntry grown } ≡ appendedOf log payload closes
     unfolding appendOf
     append-accepted acceptance =
         ⊎-elim

@@ -4,15 +4,18 @@ use mathlib.Core.Bool.{false, true≢false}
 use mathlib.Core.Path.{_≡_, refl, sym, ap, _∙_}
 use native.Mathlib.Omega.{arith}
 use borrow.Author.Tests.{ne-eqb}
-use lib.ListN.{length, getD, getD-replicate}
+use lib.Dec.{eqb}
+use lib.ListN.{length, getD-replicate}
 use Rattle.ring.specs.Ring.{slotCount, lastLsn, slotOf, freshTail}
 use Rattle.ring.specs.declared.Releasing.the-variants.{Nothing}
-use Rattle.stretch.specs.Stretch.{wordAt, holds}
-use Rattle.log.specs.Entries.{zeros, slotWords, wordsOf, freshLog}
-use Rattle.log.specs.declared.Event.{Event}
+use Rattle.log.specs.Entries.{zeros, wordsOf, freshLog}
+use Rattle.log.specs.Stretch.{holds}
+use Rattle.log.specs.declared.Entry.{Entry}
 use Rattle.log.specs.declared.Log.{Log}
+use Rattle.log.specs.declared.Payload.{Payload}
 use Rattle.log.proofs.LogInvariant.{LogHolds}
-use Rattle.log.proofs.SlotLaws.{slot-below, slot-word}
+use Rattle.log.proofs.SlotLaws.{holds-lsn}
+use Rattle.log.proofs.SlotsHold.{slot-below}
 
 pub record Idle (log : Log) : Type 0 where
   pub cachedSlots : length (log .cached) ≡ slotCount
@@ -26,8 +29,8 @@ pub record Idle (log : Log) : Type 0 where
   pub holdsNone : (number : ℕ) → log .head .0 ≤ number → holds (wordsOf (log .persisted)) number ≡ false
 
 -- it keeps the invariant of a log, whatever its thread's entries said before
-pub idle-holds : (log : Log) (events : ℕ → Event) → Idle log → LogHolds log events
-idle-holds log events idle = record {
+pub idle-holds : (log : Log) (says : ℕ → Payload) → Idle log → LogHolds log says
+idle-holds log says idle = record {
   cachedSlots = idle .cachedSlots;
   persistedSlots = idle .persistedSlots;
   headPositive = idle .headLeast;
@@ -44,7 +47,7 @@ idle-holds log events idle = record {
 
 -- the start call's log is idle: LSNs begin at 1, and four zeros hold none
 pub fresh-idle : Idle freshLog
-unfolding freshLog freshTail holds
+unfolding freshLog freshTail
 fresh-idle = record {
   cachedSlots = refl;
   persistedSlots = refl;
@@ -55,8 +58,7 @@ fresh-idle = record {
   flushedIs = refl;
   releasesNothing = refl;
   holdsNone = λ number from.
-      let zero-word : wordAt (wordsOf (freshLog .persisted)) number 3 ≡ 0 =
-      slot-word (freshLog .persisted) (slotOf number) 3 (omega arith)
-      ∙ ap (λ slot. getD (slotWords slot) 3 0) (getD-replicate slotCount (slotOf number) zeros zeros (slot-below number)) in
-      ne-eqb _ number (omega (arith, zero-word));
+      let blank = getD-replicate slotCount (slotOf number) zeros zeros (slot-below number) in
+      holds-lsn (freshLog .persisted) number
+      ∙ (ap (λ (slot : Entry). eqb (slot .lsn .0) number) blank ∙ ne-eqb 0 number (omega arith));
 }

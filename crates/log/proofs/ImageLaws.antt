@@ -5,20 +5,23 @@ use mathlib.Core.List.{List, [], _∷_, _++_, map, flatten}
 use native.Mathlib.Omega.{arith}
 use lib.ListN.{length, getD, length-map}
 use Rattle.ring.specs.Ring.{slotCount}
-use Rattle.stretch.specs.Stretch.{headsAt, entryWords}
-use Rattle.stretch.proofs.ImageLaws.{Reads, image-reads}
 use Rattle.log.specs.Entries.{wordsOf}
+use Rattle.log.specs.Stretch.{headsAt, entryWords}
 use Rattle.log.specs.declared.Log.{Log}
 use Rattle.log.proofs.SlotLaws.{length-words}
+use Rattle.log.proofs.StretchLaws.{Reads, image-reads}
 
 -- what stands at a place within a mapped list
-map-at : {A B : Type 0} (f : A → B) (list : List A) (place : ℕ) (none : A) (other : B) → place < length list → getD (map f list) place other ≡ f (getD list place none)
+map-at : {A B : Type 0} (f : A → B) (list : List A) (place : ℕ) (none : A) (other : B) → place < length list
+    → getD (map f list) place other ≡ f (getD list place none)
 map-at f [] place none other inside = absurd (omega arith)
 map-at f (one ∷ list) zero none other inside = refl
 map-at f (one ∷ list) (suc place) none other inside = map-at f list place none other (omega arith)
 
 -- the image of 128 cells and of 4 logs: their heads, then their persisted words
-pub logs-read : (cells : List ℕ) (logs : List Log) (none : Log) → length cells ≡ headsAt → length logs ≡ 4 → ((thread : ℕ) → thread < 4 → length (getD logs thread none .persisted) ≡ slotCount) → Reads (cells ++ (map (λ log. log .head .0) logs ++ flatten (map (λ log. wordsOf (log .persisted)) logs))) cells (λ thread. getD logs thread none .head .0) (λ thread. wordsOf (getD logs thread none .persisted))
+pub logs-read : (cells : List ℕ) (logs : List Log) (none : Log) → length cells ≡ headsAt → length logs ≡ 4
+    → ((thread : ℕ) → thread < 4 → length (getD logs thread none .persisted) ≡ slotCount)
+    → Reads (cells ++ (map (λ log. log .head .0) logs ++ flatten (map (λ log. wordsOf (log .persisted)) logs))) cells (λ thread. getD logs thread none .head .0) (λ thread. wordsOf (getD logs thread none .persisted))
 logs-read cells logs none cellCount logCount each =
     let heads : List ℕ = map (λ log. log .head .0) logs in
     let parts : List (List ℕ) = map (λ log. wordsOf (log .persisted)) logs in

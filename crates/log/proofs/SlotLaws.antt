@@ -1,9 +1,10 @@
--- The slots of LSNs, and the words that stand in a persisted slot after a slot was persisted. No invariant of a log is needed here.
+-- The words of slots, and what stands in a slot after slots were persisted. No invariant of a log is needed here.
 use Prim.Native.Nat.{ℕ, zero, suc, _+_, _*_, _<_, _≤_}
 use mathlib.Core.Bool.{true}
 use mathlib.Core.Path.{_≡_, refl, ap, sym, _∙_}
-use mathlib.Core.Logic.{_≢_}
+use mathlib.Core.Logic.{_≢_, by-cases}
 use mathlib.Core.List.{List, [], _∷_, _++_, flatten}
+use native.Mathlib.Decide.{ℕ-discrete}
 use native.Mathlib.Nat.{zero-add}
 use native.Mathlib.Omega.{arith}
 use borrow.Author.Tests.{eq-eqb, eqb-true}
@@ -12,54 +13,43 @@ use lib.ListN.{length, getD, length-set, length-append, getD-replicate, List·ge
 use lib.Seq.{getD-set-same, getD-set-other, getD-append-add}
 use Rattle.answer.proofs.BelowLaws.{someBelow-found}
 use Rattle.ring.specs.Ring.{slotCount, lsn, slotOf}
-use Rattle.stretch.specs.Stretch.{entryWords, wordAt, kindAt, placeAt, valueAt, holds}
-use Rattle.log.specs.Entries.{kindOf, placeOf, valueOf, entryOf, eventOf, lsnOf, untouched, zeros, persistedOf, slotWords, wordsOf, liveCount, isLiveSlot, persistSlot, persistFrom}
-use Rattle.log.specs.declared.CachedSlot.{CachedSlot}
+use Rattle.log.specs.Entries.{entryOf, zeros, slotWords, wordsOf, liveCount, isLiveSlot, persistSlot, persistFrom}
+use Rattle.log.specs.Stretch.{entryWords, lsnWord, wordAt, kindAt, placeAt, valueAt, holds}
 use Rattle.log.specs.declared.Entry.{Entry}
-use Rattle.log.specs.declared.Event.{Event}
-use Rattle.log.specs.declared.Event.the-variants.{Empty, Store, Acquire, Release}
 use Rattle.log.specs.declared.Log.{Log}
-use Rattle.log.specs.declared.PersistedSlot.{PersistedSlot}
-use Rattle.ring.specs.declared.Lsn.{Lsn}
-
--- what two constructors that are equal lead to
-pub never : _≡_ {A = ℕ} 0 1 → ⊥
-never is = omega arith
-
-pub slot-below : (number : ℕ) → slotOf number < slotCount
-slot-below number = omega arith
-
--- two LSNs of one window of 64 that share a slot are one
-pub same-slot : (head one other : ℕ) → head ≤ one → one < head + slotCount → head ≤ other → other < head + slotCount → slotOf one ≡ slotOf other → one ≡ other
-same-slot head one other oneFrom oneTo otherFrom otherTo same = omega arith
+use Rattle.log.specs.declared.Payload.{Payload}
+use Rattle.log.proofs.SlotsHold.{slot-below}
 
 -- some live entry sits in a slot that is live
-pub live-slot : (log : Log) (slot : ℕ) → isLiveSlot log slot ≡ true → (number : ℕ) × (log .head .0 ≤ number) × (number < log .tail .next .0) × (slotOf number ≡ slot)
+pub live-slot : (log : Log) (slot : ℕ) → isLiveSlot log slot ≡ true
+    → (number : ℕ) × (log .head .0 ≤ number) × (number < log .tail .next .0) × (slotOf number ≡ slot)
 unfolding isLiveSlot
 live-slot log slot isLive =
     let found = someBelow-found (liveCount log) (λ index. eqb (slotOf (log .head .0 + index)) slot) isLive in
     (log .head .0 + found .number, omega arith, omega arith, eqb-true _ _ (found .holds))
 
--- an entry that was made of an LSN and an event has both
-pub says : (number : Lsn) (event : Event) → eventOf (entryOf number event) ≡ event
-says number Empty = refl
-says number (Store cell old) = refl
-says number (Acquire lock count) = refl
-says number (Release lock count) = refl
+-- the words of an entry tell it
+pub words-tell : (one other : Entry) → slotWords one ≡ slotWords other → one ≡ other
+words-tell one other same =
+    ap (λ kind. made kind (one .place) (one .value) (one .lsn .0)) (word 0)
+    ∙ ap (λ place. made (other .kind) place (one .value) (one .lsn .0)) (word 1)
+    ∙ ap (λ value. made (other .kind) (other .place) value (one .lsn .0)) (word 2)
+    ∙ ap (made (other .kind) (other .place) (other .value)) (word 3)
+  where
+    made : ℕ → ℕ → ℕ → ℕ → Entry
+    made kind place value number = record { kind = kind; place = place; lsn = lsn number; value = value }
 
-pub numbered : (number : Lsn) (event : Event) → lsnOf (entryOf number event) ≡ number
-numbered number Empty = refl
-numbered number (Store cell old) = refl
-numbered number (Acquire lock count) = refl
-numbered number (Release lock count) = refl
+    word : (index : ℕ) → getD (slotWords one) index 0 ≡ getD (slotWords other) index 0
+    word index = ap (λ words. getD words index 0) same
 
--- the words of persisted slots, slot by slot
-pub length-words : (slots : List PersistedSlot) → length (wordsOf slots) ≡ length slots * entryWords
+-- the words of slots, slot by slot
+pub length-words : (slots : List Entry) → length (wordsOf slots) ≡ length slots * entryWords
 unfolding wordsOf flatten
 length-words [] = refl
 length-words (slot ∷ slots) = length-append (slotWords slot) (wordsOf slots) ∙ omega (arith, length-words slots)
 
-pub slot-word : (slots : List PersistedSlot) (slot index : ℕ) → index < entryWords → getD (wordsOf slots) (slot * entryWords + index) 0 ≡ getD (slotWords (getD slots slot zeros)) index 0
+pub slot-word : (slots : List Entry) (slot index : ℕ) → index < entryWords
+    → getD (wordsOf slots) (slot * entryWords + index) 0 ≡ getD (slotWords (getD slots slot zeros)) index 0
 unfolding wordsOf flatten
 slot-word [] slot index inside = sym (getD-replicate entryWords index 0 0 inside)
 slot-word (one ∷ slots) zero index inside = rw zero-add (List·getD-append (slotWords one) (wordsOf slots) 0 index inside)
@@ -69,66 +59,71 @@ slot-word (one ∷ slots) (suc slot) index inside =
     ∙ getD-append-add (slotWords one) (wordsOf slots) (slot * entryWords + index) 0
     ∙ slot-word slots slot index inside
 
+-- a slot holds an LSN just where its last word is the LSN
+pub holds-lsn : (slots : List Entry) (number : ℕ) → holds (wordsOf slots) number ≡ eqb (getD slots (slotOf number) zeros .lsn .0) number
+unfolding holds
+holds-lsn slots number = ap (λ word. eqb word number) (slot-word slots (slotOf number) lsnWord (omega arith))
+
 -- the words of an LSN's slot are those of the entry of that LSN that says this
-pub record WordsAre (words : List ℕ) (number : ℕ) (event : Event) : Type 0 where
-  pub kindIs : kindAt words number ≡ kindOf event
-  pub placeIs : placeAt words number ≡ placeOf event
-  pub valueIs : valueAt words number ≡ valueOf event
-  pub lsnIs : wordAt words number 3 ≡ number
+pub record WordsAre (words : List ℕ) (number : ℕ) (payload : Payload) : Type 0 where
+  pub kindIs : kindAt words number ≡ payload .kind
+  pub placeIs : placeAt words number ≡ payload .place
+  pub valueIs : valueAt words number ≡ payload .value
+
+pub words-are : (slots : List Entry) (number : ℕ) (payload : Payload) → getD slots (slotOf number) zeros ≡ entryOf (lsn number) payload
+    → WordsAre (wordsOf slots) number payload
+words-are slots number payload is =
+    let word : (index : ℕ) → index < entryWords → wordAt (wordsOf slots) number index ≡ getD (slotWords (entryOf (lsn number) payload)) index 0 =
+    λ index inside. slot-word slots (slotOf number) index inside ∙ ap (λ slot. getD (slotWords slot) index 0) is in
+    record { kindIs = word 0 (omega arith); placeIs = word 1 (omega arith); valueIs = word 2 (omega arith) }
 
 -- such a slot holds the LSN
-pub words-hold : (words : List ℕ) (number : ℕ) (event : Event) → WordsAre words number event → holds words number ≡ true
-unfolding holds
-words-hold words number event are = eq-eqb _ _ (are .lsnIs)
+pub entry-holds : (slots : List Entry) (number : ℕ) (payload : Payload) → getD slots (slotOf number) zeros ≡ entryOf (lsn number) payload
+    → holds (wordsOf slots) number ≡ true
+entry-holds slots number payload is =
+    holds-lsn slots number ∙ (ap (λ (slot : Entry). eqb (slot .lsn .0) number) is ∙ eq-eqb number number refl)
 
-pub length-persistSlot : (cached : List CachedSlot) (slots : List PersistedSlot) (slot : ℕ) → length (persistSlot cached slots slot) ≡ length slots
+pub length-persistSlot : (cached slots : List Entry) (slot : ℕ) → length (persistSlot cached slots slot) ≡ length slots
 unfolding persistSlot
-length-persistSlot cached slots slot = length-set slots slot (persistedOf (getD cached slot untouched .entry))
+length-persistSlot cached slots slot = length-set slots slot (getD cached slot zeros)
 
-pub length-persistFrom : (cached : List CachedSlot) (slots : List PersistedSlot) (number count : ℕ) → length (persistFrom cached slots number count) ≡ length slots
+pub length-persistFrom : (cached slots : List Entry) (number count : ℕ) → length (persistFrom cached slots number count) ≡ length slots
 unfolding persistFrom
 length-persistFrom cached slots number zero = refl
 length-persistFrom cached slots number (suc count) =
     length-persistSlot cached (persistFrom cached slots number count) (slotOf (number + count))
     ∙ length-persistFrom cached slots number count
 
--- a slot that is persisted has the words of its cached entry
-pub persist-word : (cached : List CachedSlot) (slots : List PersistedSlot) (number index : ℕ) (entry : Entry) → length slots ≡ slotCount → getD cached (slotOf number) untouched .entry ≡ entry → index < entryWords → wordAt (wordsOf (persistSlot cached slots (slotOf number))) number index ≡ getD (slotWords (persistedOf entry)) index 0
+-- a slot that is persisted has what is cached there, and the others have what they had
+pub persist-here : (cached slots : List Entry) (slot : ℕ) → slot < length slots
+    → getD (persistSlot cached slots slot) slot zeros ≡ getD cached slot zeros
 unfolding persistSlot
-persist-word cached slots number index entry sized is inside =
-    slot-word (persistSlot cached slots (slotOf number)) (slotOf number) index inside
-    ∙ ap (λ slot. getD (slotWords slot) index 0) (getD-set-same slots (slotOf number) (persistedOf (getD cached (slotOf number) untouched .entry)) zeros (omega (arith, slot-below number)))
-    ∙ ap (λ made. getD (slotWords (persistedOf made)) index 0) is
+persist-here cached slots slot inside = getD-set-same slots slot (getD cached slot zeros) zeros inside
 
--- the words of the other slots are as they were
-pub persist-word-other : (cached : List CachedSlot) (slots : List PersistedSlot) (slot number index : ℕ) → slotOf number ≢ slot → index < entryWords → wordAt (wordsOf (persistSlot cached slots slot)) number index ≡ wordAt (wordsOf slots) number index
+pub persist-other : (cached slots : List Entry) (slot other : ℕ) → other ≢ slot
+    → getD (persistSlot cached slots slot) other zeros ≡ getD slots other zeros
 unfolding persistSlot
-persist-word-other cached slots slot number index differs inside =
-    slot-word (persistSlot cached slots slot) (slotOf number) index inside
-    ∙ ap (λ kept. getD (slotWords kept) index 0) (getD-set-other slots slot (slotOf number) (persistedOf (getD cached slot untouched .entry)) zeros differs)
-    ∙ sym (slot-word slots (slotOf number) index inside)
+persist-other cached slots slot other differs = getD-set-other slots slot other (getD cached slot zeros) zeros differs
 
-pub persist-here : (cached : List CachedSlot) (slots : List PersistedSlot) (number : ℕ) (event : Event) → length slots ≡ slotCount → getD cached (slotOf number) untouched .entry ≡ entryOf (lsn number) event → WordsAre (wordsOf (persistSlot cached slots (slotOf number))) number event
-persist-here cached slots number event sized is =
-    let word : (index : ℕ) → index < entryWords → wordAt (wordsOf (persistSlot cached slots (slotOf number))) number index ≡ getD (slotWords (persistedOf (entryOf (lsn number) event))) index 0 =
-    λ index inside. persist-word cached slots number index (entryOf (lsn number) event) sized is inside in
-    let said = says (lsn number) event in
-    record {
-      kindIs = word 0 (omega arith) ∙ ap kindOf said;
-      placeIs = word 1 (omega arith) ∙ ap placeOf said;
-      valueIs = word 2 (omega arith) ∙ ap valueOf said;
-      lsnIs = word 3 (omega arith) ∙ ap (λ (made : Lsn). made .0) (numbered (lsn number) event);
-    }
+-- so have the slots of a run of LSNs
+pub run-here : (cached slots : List Entry) (number count live : ℕ) → length slots ≡ slotCount → number ≤ live → live < number + count
+    → getD (persistFrom cached slots number count) (slotOf live) zeros ≡ getD cached (slotOf live) zeros
+unfolding persistFrom
+run-here cached slots number zero live sized from to = absurd (omega arith)
+run-here cached slots number (suc count) live sized from to =
+    let before = persistFrom cached slots number count in
+    let last = slotOf (number + count) in
+    let inside : last < length before = omega (arith, length-persistFrom cached slots number count, slot-below (number + count)) in
+    by-cases
+    (ℕ-discrete (slotOf live) last)
+    (λ same. rw same (persist-here cached before last inside))
+    (λ differs. persist-other cached before last (slotOf live) differs ∙ run-here cached slots number count live sized from (omega arith))
 
-pub persist-other : (cached : List CachedSlot) (slots : List PersistedSlot) (slot number : ℕ) (event : Event) → slotOf number ≢ slot → WordsAre (wordsOf slots) number event → WordsAre (wordsOf (persistSlot cached slots slot)) number event
-persist-other cached slots slot number event differs are = record {
-  kindIs = persist-word-other cached slots slot number 0 differs (omega arith) ∙ are .kindIs;
-  placeIs = persist-word-other cached slots slot number 1 differs (omega arith) ∙ are .placeIs;
-  valueIs = persist-word-other cached slots slot number 2 differs (omega arith) ∙ are .valueIs;
-  lsnIs = persist-word-other cached slots slot number 3 differs (omega arith) ∙ are .lsnIs;
-}
-
-pub persist-holds-other : (cached : List CachedSlot) (slots : List PersistedSlot) (slot number : ℕ) → slotOf number ≢ slot → holds (wordsOf (persistSlot cached slots slot)) number ≡ holds (wordsOf slots) number
-unfolding holds
-persist-holds-other cached slots slot number differs =
-    ap (λ word. eqb word number) (persist-word-other cached slots slot number 3 differs (omega arith))
+pub run-elsewhere : (cached slots : List Entry) (number count slot : ℕ)
+    → ((live : ℕ) → number ≤ live → live < number + count → slotOf live ≢ slot)
+    → getD (persistFrom cached slots number count) slot zeros ≡ getD slots slot zeros
+unfolding persistFrom
+run-elsewhere cached slots number zero slot outside = refl
+run-elsewhere cached slots number (suc count) slot outside =
+    persist-other cached (persistFrom cached slots number count) (slotOf (number + count)) slot (λ same. outside (number + count) (omega arith) (omega arith) (sym same))
+    ∙ run-elsewhere cached slots number count slot (λ live from to. outside live from (omega arith))

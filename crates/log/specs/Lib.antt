@@ -1,3 +1,3 @@
--- One thread's log: entries and their words, what changes a log, and its regions. Nothing here names a thread.
+-- A log's stretch of an image, and one log, whose entries mean nothing here.
+pub mod Stretch
 pub mod Entries
-pub mod Regions

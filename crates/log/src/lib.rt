@@ -1,76 +1,46 @@
-// One thread's undo log: its entries, which of them are live, durable or persisted, its regions, and the writer of its stretch of an image.
+// One log: 64 slots, cached and persisted, the head and the thread's record; and its stretch of an image, written and read. What the kind,
+// the place and the value of an entry mean is not known here.
 ghost use mathlib.Core.Path.{_≡_};
-ghost use Prim.Native.Nat.{_+_, _-_, _<_};
+ghost use Prim.Native.Nat.{_<_};
 ghost use lib.ListN.{getD};
-ghost use lib.Dec.{eqb};
-ghost use Rattle.answer.specs.Lists.{someBelow};
-ghost use Rattle.ring.specs.Ring.{slotOf};
-ghost use Rattle.log.specs.Entries.{kindOf, placeOf, valueOf, entryOf, eventOf, lsnOf, persistedOf, slotWords, freshLog, liveCount, liveEvent, closesOf, appendedOf, flushLogOf, endReleaseOf, fenceLogOf, evictedOf, pruneToOf, writtenOf};
-ghost use Rattle.log.specs.Regions.{isAcquire, isRelease, loggedOf, oldestRegion, isFinished};
+ghost use Rattle.log.specs.Entries.{slotWords, freshLog, appendedOf, flushLogOf, fenceLogOf, evictedOf, dropToOf, writtenOf};
+ghost use Rattle.log.specs.Stretch.{stretchOf, wordAt, presentOf};
 use answer::Answer;
 use ring::Lsn;
 use ring::Releasing;
+use ring::SLOTS;
 use ring::Tail;
 use ring::append_to;
+use ring::has_slot;
+use ring::slot_after;
 
-// How often a lock was released (document 01: lock count). Never added to or compared with an LSN.
-pub struct SyncCount(pub u32);
+// The words of an entry in an image, and those of a log.
+const ENTRY_WORDS: usize = 4;
 
-// What an entry records: a cell's content before a store, or a lock's count.
-pub enum Event {
-    Empty,
-    Store { cell: u8, old: u64 },
-    Acquire { lock: u8, count: SyncCount },
-    Release { lock: u8, count: SyncCount },
+const STRETCH_WORDS: usize = 256;
+
+// What an entry says, beside its LSN.
+pub struct Payload {
+    pub kind: u8,
+    pub place: u8,
+    pub value: u64,
 }
 
-// An entry: what it records, with its LSN. The LSN stands inside each case, so that an entry takes 16 bytes.
-pub enum Entry {
-    Untouched {
-        lsn: Lsn,
-    },
-    Stored {
-        cell: u8,
-        lsn: Lsn,
-        old: u64,
-    },
-    Acquired {
-        lock: u8,
-        lsn: Lsn,
-        count: SyncCount,
-    },
-    Released {
-        lock: u8,
-        lsn: Lsn,
-        count: SyncCount,
-    },
-}
-
-// A slot as the cache has it. An entry sits in slot LSN mod 64; an untouched slot holds LSN 0.
-pub struct CachedSlot {
-    entry: Entry,
-}
-
-// A slot as persistent memory has it: the words kind, place, value and LSN of an image, each as wide as an entry needs it.
-pub struct PersistedSlot {
-    kind: u8,
-    place: u8,
-    lsn: Lsn,
-    value: u64,
+// An entry, as the cache has it and as persistent memory has it: the words kind, place, value and LSN of an image, each as wide as an entry
+// needs it. It sits in slot LSN mod 64; an untouched slot holds zeros.
+pub struct Entry {
+    pub kind: u8,
+    pub place: u8,
+    pub lsn: Lsn,
+    pub value: u64,
 }
 
 // A thread's log: 64 slots, cached (document 01: seen) and persisted (kept), the head and the thread's record.
 pub struct Log {
-    cached: [CachedSlot; 64],
-    persisted: [PersistedSlot; 64],
-    head: Lsn,
-    tail: Tail,
-}
-
-// Where the current region has a cell's entry.
-pub enum Found {
-    Nowhere,
-    At(Lsn),
+    pub cached: [Entry; 64],
+    pub persisted: [Entry; 64],
+    pub head: Lsn,
+    pub tail: Tail,
 }
 
 // What a change of a log answers, beside the log after it.
@@ -79,180 +49,8 @@ pub struct Changed {
     pub log: Log,
 }
 
-// How many entries are live, with this record and this head.
-fn live_entries(tail: Tail, head: Lsn) -> u32
-    ensures { λ r. ⌜ r ≡ tail .next .0 - head .0 ⌝ }
-{
-    let next = tail.next_lsn();
-    next.since(head)
-}
-
-// The slot of the LSN that is so many after this one.
-fn slot_after(lsn: Lsn, count: usize) -> usize
-    ensures { λ r. ⌜ r ≡ slotOf (lsn .0 + count) ⌝ }
-{
-    (lsn.0 as usize % 64 + count % 64) % 64
-}
-
-// Of so many LSNs from this one on, one sits in the slot.
-fn has_slot(first: Lsn, count: u32, slot: usize) -> bool
-    ensures { λ r. ⌜ r ≡ someBelow count (λ index. eqb (slotOf (first .0 + index)) slot) ⌝ }
-{
-    if 63 < slot {
-        return false;
-    }
-    let ahead = (slot + 64 - first.0 as usize % 64) % 64;
-    ahead < count as usize
-}
-
-impl Event {
-    // The first word of an entry.
-    fn kind(self) -> u8
-        ensures { λ r. ⌜ r ≡ kindOf self ⌝ }
-    {
-        match self {
-            Event::Empty => 0,
-            Event::Store { cell: _, old: _ } => 1,
-            Event::Acquire { lock: _, count: _ } => 2,
-            Event::Release { lock: _, count: _ } => 3,
-        }
-    }
-
-    // The second word of an entry: its cell or lock.
-    fn place(self) -> u8
-        ensures { λ r. ⌜ r ≡ placeOf self ⌝ }
-    {
-        match self {
-            Event::Empty => 0,
-            Event::Store { cell, old: _ } => cell,
-            Event::Acquire { lock, count: _ } => lock,
-            Event::Release { lock, count: _ } => lock,
-        }
-    }
-
-    // The third word of an entry: the cell's old content, or the lock's count.
-    fn value(self) -> u64
-        ensures { λ r. ⌜ r ≡ valueOf self ⌝ }
-    {
-        match self {
-            Event::Empty => 0,
-            Event::Store { cell: _, old } => old,
-            Event::Acquire { lock: _, count } => count.0 as u64,
-            Event::Release { lock: _, count } => count.0 as u64,
-        }
-    }
-
-    // The lock that an entry begins to release.
-    fn closes(self) -> Releasing
-        ensures { λ r. ⌜ r ≡ closesOf self ⌝ }
-    {
-        match self {
-            Event::Empty => Releasing::Nothing,
-            Event::Store { cell: _, old: _ } => Releasing::Nothing,
-            Event::Acquire { lock: _, count: _ } => Releasing::Nothing,
-            Event::Release { lock, count: _ } => Releasing::Lock(lock),
-        }
-    }
-
-    // The entry is an ACQUIRE.
-    fn is_acquire(self) -> bool
-        ensures { λ r. ⌜ r ≡ isAcquire self ⌝ }
-    {
-        match self {
-            Event::Empty => false,
-            Event::Store { cell: _, old: _ } => false,
-            Event::Acquire { lock: _, count: _ } => true,
-            Event::Release { lock: _, count: _ } => false,
-        }
-    }
-
-    // The entry is a RELEASE.
-    fn is_release(self) -> bool
-        ensures { λ r. ⌜ r ≡ isRelease self ⌝ }
-    {
-        match self {
-            Event::Empty => false,
-            Event::Store { cell: _, old: _ } => false,
-            Event::Acquire { lock: _, count: _ } => false,
-            Event::Release { lock: _, count: _ } => true,
-        }
-    }
-}
-
 impl Entry {
-    // The entry of this LSN that says this.
-    fn new(lsn: Lsn, event: Event) -> Entry
-        ensures { λ r. ⌜ r ≡ entryOf lsn event ⌝ }
-    {
-        match event {
-            Event::Empty => Entry::Untouched { lsn },
-            Event::Store { cell, old } => Entry::Stored { cell, lsn, old },
-            Event::Acquire { lock, count } => Entry::Acquired { lock, lsn, count },
-            Event::Release { lock, count } => Entry::Released { lock, lsn, count },
-        }
-    }
-
-    // What the entry says.
-    fn event(self) -> Event
-        ensures { λ r. ⌜ r ≡ eventOf self ⌝ }
-    {
-        match self {
-            Entry::Untouched { lsn: _ } => Event::Empty,
-            Entry::Stored { cell, lsn: _, old } => Event::Store { cell, old },
-            Entry::Acquired {
-                lock,
-                lsn: _,
-                count,
-            } => Event::Acquire { lock, count },
-            Entry::Released {
-                lock,
-                lsn: _,
-                count,
-            } => Event::Release { lock, count },
-        }
-    }
-
-    // The entry's LSN.
-    fn lsn(self) -> Lsn
-        ensures { λ r. ⌜ r ≡ lsnOf self ⌝ }
-    {
-        match self {
-            Entry::Untouched { lsn } => lsn,
-            Entry::Stored {
-                cell: _,
-                lsn,
-                old: _,
-            } => lsn,
-            Entry::Acquired {
-                lock: _,
-                lsn,
-                count: _,
-            } => lsn,
-            Entry::Released {
-                lock: _,
-                lsn,
-                count: _,
-            } => lsn,
-        }
-    }
-
-    // The entry as it is persisted.
-    fn persisted(self) -> PersistedSlot
-        ensures { λ r. ⌜ r ≡ persistedOf self ⌝ }
-    {
-        let event = self.event();
-        let lsn = self.lsn();
-        PersistedSlot {
-            kind: event.kind(),
-            place: event.place(),
-            lsn,
-            value: event.value(),
-        }
-    }
-}
-
-impl PersistedSlot {
-    // One of the slot's four words, in an image's order.
+    // One of the entry's four words, in an image's order.
     fn word(self, index: usize) -> u64
         requires { ⌜ index < 4 ⌝ }
         ensures { λ r. ⌜ r ≡ getD (slotWords self) index 0 ⌝ }
@@ -275,18 +73,20 @@ impl Log {
     pub fn new() -> Log
         ensures { λ r. ⌜ r ≡ freshLog ⌝ }
     {
-        let untouched = CachedSlot {
-            entry: Entry::Untouched { lsn: Lsn(0) },
-        };
-        let zeros = PersistedSlot {
+        let zeros = Entry {
             kind: 0,
             place: 0,
             lsn: Lsn(0),
             value: 0,
         };
-        let cached = [untouched; 64];
+        let tail = Tail {
+            next: Lsn(1),
+            durable: Lsn(0),
+            flushed: Lsn(0),
+            releasing: Releasing::Nothing,
+        };
+        let cached = [zeros; 64];
         let persisted = [zeros; 64];
-        let tail = Tail::fresh();
         Log {
             cached,
             persisted,
@@ -295,26 +95,27 @@ impl Log {
         }
     }
 
-    // How many entries are live.
-    pub fn live_count(self) -> usize
-        ensures { λ r. ⌜ r ≡ liveCount self ⌝ }
+    // The log with one entry more, beside its LSN; or a refusal (6, then 5), and the log as it was. A RELEASE entry closes its lock.
+    pub fn append(mut self, payload: Payload, closes: Releasing) -> Changed
+        ensures { λ r. ⌜ r ≡ appendedOf self payload closes ⌝ }
     {
-        let tail = self.tail;
-        live_entries(tail, self.head) as usize
-    }
-
-    // The LSN of the oldest live entry.
-    pub fn head_lsn(self) -> Lsn
-        ensures { λ r. ⌜ r ≡ self .head ⌝ }
-    {
-        self.head
-    }
-
-    // The thread's record.
-    pub fn tail(self) -> Tail
-        ensures { λ r. ⌜ r ≡ self .tail ⌝ }
-    {
-        self.tail
+        let before = self.tail;
+        let next = before.next;
+        let grown = append_to(before, self.head, closes);
+        let answer = grown.answer;
+        let tail = grown.tail;
+        if answer::number(answer) != 0 {
+            return Changed { answer, log: self };
+        }
+        let slot = next.0 as usize % SLOTS;
+        self.cached[slot] = Entry {
+            kind: payload.kind,
+            place: payload.place,
+            lsn: next,
+            value: payload.value,
+        };
+        self.tail = tail;
+        Changed { answer, log: self }
     }
 
     // FLUSHLOG: the entries made so far are flushed.
@@ -327,60 +128,19 @@ impl Log {
         self
     }
 
-    // RELEASE: the thread is releasing nothing any more.
-    pub fn end_release(mut self) -> Log
-        ensures { λ r. ⌜ r ≡ endReleaseOf self ⌝ }
-    {
-        let before = self.tail;
-        let ended = before.released();
-        self.tail = ended;
-        self
-    }
-
-    // What the live entry says that has so many live ones before it.
-    pub fn live_event(self, index: usize) -> Event
-        ensures { λ r. ⌜ r ≡ liveEvent self index ⌝ }
-    {
-        let cached = self.cached;
-        let slot = slot_after(self.head, index);
-        let held = cached[slot];
-        let entry = held.entry;
-        entry.event()
-    }
-
-    // The log with one entry more, beside its LSN; or a refusal (6, then 5), and the log as it was.
-    pub fn append(mut self, event: Event) -> Changed
-        ensures { λ r. ⌜ r ≡ appendedOf self event ⌝ }
-    {
-        let before = self.tail;
-        let next = before.next_lsn();
-        let grown = append_to(before, self.head, event.closes());
-        let answer = grown.answer;
-        let tail = grown.tail;
-        if answer::number(answer) != 0 {
-            return Changed { answer, log: self };
-        }
-        let slot = next.0 as usize % 64;
-        let entry = Entry::new(next, event);
-        self.cached[slot] = CachedSlot { entry };
-        self.tail = tail;
-        Changed { answer, log: self }
-    }
-
     // FENCE: the flushed entries become persisted and durable.
     pub fn fence(mut self) -> Log
         ensures { λ r. ⌜ r ≡ fenceLogOf self ⌝ }
     {
         let before = self.tail;
-        let durable = before.durable_lsn();
-        let flushed = before.flushed_lsn();
+        let durable = before.durable;
+        let flushed = before.flushed;
         let count = flushed.since(durable) as usize;
         let mut done = 0;
         while done < count {
             let slot = slot_after(durable, done + 1);
-            let held = self.cached[slot];
-            let entry = held.entry;
-            self.persisted[slot] = entry.persisted();
+            let entry = self.cached[slot];
+            self.persisted[slot] = entry;
             done += 1;
         }
         let fenced = before.fenced();
@@ -394,10 +154,9 @@ impl Log {
     {
         let head = self.head;
         let tail = self.tail;
-        if has_slot(head, live_entries(tail, head), slot) {
-            let held = self.cached[slot];
-            let entry = held.entry;
-            self.persisted[slot] = entry.persisted();
+        if has_slot(head, tail.live_count(head), slot) {
+            let entry = self.cached[slot];
+            self.persisted[slot] = entry;
             Changed {
                 answer: Answer::Accepted(0),
                 log: self,
@@ -410,13 +169,13 @@ impl Log {
         }
     }
 
-    // PRUNE: the head moves up to this LSN; one that is neither live nor the next changes nothing.
-    pub fn prune_to(mut self, head: Lsn) -> Log
-        ensures { λ r. ⌜ r ≡ pruneToOf self (head .0) ⌝ }
+    // All entries before this LSN are dropped; one that is neither live nor the next changes nothing.
+    pub fn drop_to(mut self, head: Lsn) -> Log
+        ensures { λ r. ⌜ r ≡ dropToOf self (head .0) ⌝ }
     {
         let first = self.head;
         let tail = self.tail;
-        let next = tail.next_lsn();
+        let next = tail.next;
         if head.0 < first.0 {
             return self;
         }
@@ -426,104 +185,67 @@ impl Log {
         self.head = head;
         self
     }
-
-    // Where the current region has the cell's entry.
-    pub fn logged(self, cell: usize) -> Found
-        ensures { λ r. ⌜ r ≡ loggedOf self cell ⌝ }
-    {
-        let head = self.head;
-        let cached = self.cached;
-        let tail = self.tail;
-        let mut left = live_entries(tail, head);
-        while 0 < left {
-            left -= 1;
-            let slot = slot_after(head, left as usize);
-            let held = cached[slot];
-            let entry = held.entry;
-            let event = entry.event();
-            match event {
-                Event::Empty => return Found::Nowhere,
-                Event::Store {
-                    cell: logged,
-                    old: _,
-                } => {
-                    if logged as usize == cell {
-                        return Found::At(Lsn(head.0 + left));
-                    }
-                }
-                Event::Acquire { lock: _, count: _ } => return Found::Nowhere,
-                Event::Release { lock: _, count: _ } => return Found::Nowhere,
-            }
-        }
-        Found::Nowhere
-    }
-
-    // How many entries the oldest region has that is not pruned: 0 where no entry is live.
-    pub fn oldest_region(self) -> usize
-        ensures { λ r. ⌜ r ≡ oldestRegion self ⌝ }
-    {
-        let head = self.head;
-        let cached = self.cached;
-        let tail = self.tail;
-        let live = live_entries(tail, head) as usize;
-        if live == 0 {
-            return 0;
-        }
-        let slot = slot_after(head, 0);
-        let held = cached[slot];
-        let entry = held.entry;
-        let event = entry.event();
-        if event.is_release() {
-            return 1;
-        }
-        let mut count = 1;
-        while count < live {
-            let slot = slot_after(head, count);
-            let held = cached[slot];
-            let entry = held.entry;
-            let event = entry.event();
-            if event.is_acquire() {
-                return count;
-            }
-            count += 1;
-            if event.is_release() {
-                return count;
-            }
-        }
-        count
-    }
-
-    // The oldest region is finished: its RELEASE step was taken, or the next ACQUIRE is there.
-    pub fn is_finished(self) -> bool
-        ensures { λ r. ⌜ r ≡ isFinished self ⌝ }
-    {
-        let region = self.oldest_region();
-        if region < self.live_count() {
-            return true;
-        }
-        if region == 0 {
-            return false;
-        }
-        if self.live_event(region - 1).is_release() {
-            let tail = self.tail;
-            return !tail.is_releasing();
-        }
-        false
-    }
 }
 
 // The first 256 words of the part become the log's persisted ones; a part that is too short stays as it was.
 pub fn write_stretch(log: Log, part: &mut [u64])
     ensures { λ _. ⌜ now (part .exit) ≡ writtenOf log (now (part .entry)) ⌝ }
 {
-    if part.len() < 256 {
+    if part.len() < STRETCH_WORDS {
         return;
     }
     let persisted = log.persisted;
     let mut i = 0;
-    while i < 256 {
-        let slot = persisted[i / 4];
-        part[i] = slot.word(i % 4);
+    while i < STRETCH_WORDS {
+        let slot = persisted[i / ENTRY_WORDS];
+        part[i] = slot.word(i % ENTRY_WORDS);
         i += 1;
     }
+}
+
+// A thread's own 256 words of an image; an empty part for a thread over 3 or an image that is not of 1,156 words.
+pub fn stretch(image: &[u64], thread: usize) -> &[u64]
+    ensures { λ r. ⌜ now r ≡ stretchOf (now (image .entry)) thread ⌝ }
+{
+    if 3 < thread {
+        return &image[0..0];
+    }
+    if image.len() != 1156 {
+        return &image[0..0];
+    }
+    let first = 132 + thread * STRETCH_WORDS;
+    &image[first..first + STRETCH_WORDS]
+}
+
+// A word of the slot of this LSN: 0 past the end of the stretch.
+pub fn word(stretch: &[u64], number: u64, index: usize) -> u64
+    ensures { λ r. ⌜ r ≡ wordAt (now (stretch .entry)) number index ⌝ }
+{
+    let first = (number % 64) as usize * ENTRY_WORDS;
+    if stretch.len() <= first {
+        return 0;
+    }
+    if stretch.len() - first <= index {
+        return 0;
+    }
+    stretch[first + index]
+}
+
+// How many LSNs from the head on are found in their slots, up to the first missing one: at most 64, and none over 1,000,000.
+pub fn present(stretch: &[u64], head: u64) -> usize
+    ensures { λ r. ⌜ r ≡ presentOf (now (stretch .entry)) head ⌝ }
+{
+    let mut found = 0;
+    let mut number = head;
+    while found < SLOTS {
+        if 1000000 < number {
+            return found;
+        }
+        if word(stretch, number, 3) != number {
+            return found;
+        }
+        found += 1;
+        number += 1;
+    }
+    found
 }

@@ -1,26 +1,28 @@
 -- What it means, kind by kind, that every test of a step failed: what an accepted step's fields and the machine before it are like.
 use Prim.Native.Nat.{ℕ, _+_, _-_, _≤_, _<_}
-use mathlib.Core.Path.{_≡_, refl, sym, ap}
-use mathlib.Core.Bool.{Bool, true, false, not, true≢false}
-use mathlib.Core.List.{List}
+use mathlib.Core.Path.{_≡_, refl, ap}
+use mathlib.Core.Bool.{true, false, not, true≢false}
 use lib.Dec.{ltb, eqb}
 use borrow.Author.Tests.{ltb-true, ltb-false, eqb-true, not-false}
 use Rattle.answer.specs.Lists.{someBelow}
 use Rattle.answer.proofs.RefusalLaws.{AllFail}
-use Rattle.log.specs.Entries.{liveEvent, appendTests, isLiveSlot, evictSlotTests}
-use Rattle.log.specs.Regions.{loggedOf, oldestRegion, isFinished}
+use Rattle.undo.specs.Events.{liveEvent}
+use Rattle.log.specs.Entries.{appendTests, isLiveSlot, evictSlotTests}
+use Rattle.undo.specs.Regions.{loggedOf, oldestRegion, isFinished, isFound, isUndurableFound}
 use Rattle.ring.specs.Ring.{lsn, isReleasing, isReleasingLock}
-use Rattle.log.specs.declared.Found.{Found}
-use Rattle.log.specs.declared.Found.the-variants.{Nowhere, At}
+use Rattle.undo.specs.declared.Found.{Found}
+use Rattle.undo.specs.declared.Found.the-variants.{Nowhere, At}
 use Rattle.log.specs.declared.Log.{Log}
 use Rattle.ring.specs.declared.Releasing.{Releasing}
 use Rattle.ring.specs.declared.Releasing.the-variants.{Nothing, Lock}
 use Rattle.machine.specs.Clocks.{loadRaces, logRaces}
-use Rattle.machine.specs.Holds.{logOf, lockOf, isHeld, isHeldBy}
-use Rattle.machine.specs.Kinds.{LOAD, LOG, STORE, ACQUIRE, LOGREL, RELEASE, FLUSH, FLUSHLOG, FENCE, PRUNE, EVICT, EVICTLOG, inputTests}
-use Rattle.machine.specs.Refusals.{isFound, isUndurableFound, awaitsRelease, logsUndurable, loadTests, logTests, storeTests, acquireTests, logReleaseTests, releaseTests, pruneTests, stateTests}
-use Rattle.machine.specs.declared.Holder.{Holder}
-use Rattle.machine.specs.declared.Holder.the-variants.{Nobody, Thread}
+use Rattle.machine.specs.Holds.{logOf, lockOf}
+use Rattle.locks.specs.Locks.{isHeld, isHeldBy}
+use Rattle.kinds.specs.Kinds.{LOAD, LOG, STORE, ACQUIRE, LOGREL, RELEASE, FLUSH, FLUSHLOG, FENCE, PRUNE, EVICT, EVICTLOG, inputTests}
+use Rattle.locks.specs.LockSteps.{awaitsRelease, logsUndurable, releaseTests, pruneTests}
+use Rattle.machine.specs.Refusals.{loadTests, logTests, storeTests, acquireTests, logReleaseTests, stateTests}
+use Rattle.locks.specs.declared.Holder.{Holder}
+use Rattle.locks.specs.declared.Holder.the-variants.{Nobody, Thread}
 use Rattle.machine.specs.declared.Machine.{Machine}
 use Rattle.machine.proofs.StepLaws.{testsOf}
 
@@ -50,7 +52,8 @@ found-nowhere : (found : Found) → isFound found ≡ false → found ≡ Nowher
 found-nowhere Nowhere fails = refl
 found-nowhere (At number) fails = absurd (true≢false fails)
 
-found-durable : (log : Log) (found : Found) → not (isFound found) ≡ false → isUndurableFound log found ≡ false → (number : ℕ) × (found ≡ At (lsn number)) × (number ≤ log .tail .durable .0)
+found-durable : (log : Log) (found : Found) → not (isFound found) ≡ false → isUndurableFound log found ≡ false
+    → (number : ℕ) × (found ≡ At (lsn number)) × (number ≤ log .tail .durable .0)
 found-durable log Nowhere isFound isDurable = absurd (true≢false isFound)
 found-durable log (At number) isFound isDurable = (number .0, refl, ltb-false (log .tail .durable .0) (number .0) isDurable)
 
@@ -60,8 +63,9 @@ pub record LoadAsked (machine : Machine) (thread cell value : ℕ) : Type 0 wher
   pub noValue : value ≡ 0
   pub noRace : loadRaces machine thread cell ≡ false
 
-pub load-asked : (machine : Machine) (thread cell value : ℕ) → AllFail (testsOf machine LOAD thread cell value) → LoadAsked machine thread cell value
-unfolding inputTests stateTests loadTests
+pub load-asked : (machine : Machine) (thread cell value : ℕ) → AllFail (testsOf machine LOAD thread cell value)
+    → LoadAsked machine thread cell value
+unfolding inputTests stateTests loadTests loadRaces
 load-asked machine thread cell value fails = record {
   inThread = below-bound thread 4 (fails .0);
   inCell = below-bound cell 128 (fails .1 .0);
@@ -78,8 +82,9 @@ pub record LogAsked (machine : Machine) (thread cell value : ℕ) : Type 0 where
   pub noRace : logRaces machine thread cell ≡ false
   pub room : AllFail (appendTests (logOf machine thread))
 
-pub log-asked : (machine : Machine) (thread cell value : ℕ) → AllFail (testsOf machine LOG thread cell value) → LogAsked machine thread cell value
-unfolding inputTests stateTests logTests
+pub log-asked : (machine : Machine) (thread cell value : ℕ) → AllFail (testsOf machine LOG thread cell value)
+    → LogAsked machine thread cell value
+unfolding inputTests stateTests logTests logRaces
 log-asked machine thread cell value fails = record {
   inThread = below-bound thread 4 (fails .0);
   inCell = below-bound cell 128 (fails .1 .0);
@@ -98,7 +103,8 @@ pub record StoreAsked (machine : Machine) (thread cell : ℕ) : Type 0 where
   pub isLogged : loggedOf (logOf machine thread) cell ≡ At (lsn number)
   pub isDurable : number ≤ logOf machine thread .tail .durable .0
 
-pub store-asked : (machine : Machine) (thread cell value : ℕ) → AllFail (testsOf machine STORE thread cell value) → StoreAsked machine thread cell
+pub store-asked : (machine : Machine) (thread cell value : ℕ) → AllFail (testsOf machine STORE thread cell value)
+    → StoreAsked machine thread cell
 unfolding inputTests stateTests storeTests
 store-asked machine thread cell value fails =
     let found = found-durable (logOf machine thread) (loggedOf (logOf machine thread) cell) (fails .1 .1 .1 .1 .0) (fails .1 .1 .1 .1 .1 .0) in
@@ -119,7 +125,8 @@ pub record AcquireAsked (machine : Machine) (thread lock value : ℕ) : Type 0 w
   pub isFree : lockOf machine lock .holder ≡ Nobody
   pub room : AllFail (appendTests (logOf machine thread))
 
-pub acquire-asked : (machine : Machine) (thread lock value : ℕ) → AllFail (testsOf machine ACQUIRE thread lock value) → AcquireAsked machine thread lock value
+pub acquire-asked : (machine : Machine) (thread lock value : ℕ) → AllFail (testsOf machine ACQUIRE thread lock value)
+    → AcquireAsked machine thread lock value
 unfolding inputTests stateTests acquireTests
 acquire-asked machine thread lock value fails = record {
   inThread = below-bound thread 4 (fails .0);
@@ -138,7 +145,8 @@ pub record LogReleaseAsked (machine : Machine) (thread lock value : ℕ) : Type 
   pub isHeldBySelf : lockOf machine lock .holder ≡ Thread thread
   pub room : AllFail (appendTests (logOf machine thread))
 
-pub log-release-asked : (machine : Machine) (thread lock value : ℕ) → AllFail (testsOf machine LOGREL thread lock value) → LogReleaseAsked machine thread lock value
+pub log-release-asked : (machine : Machine) (thread lock value : ℕ) → AllFail (testsOf machine LOGREL thread lock value)
+    → LogReleaseAsked machine thread lock value
 unfolding inputTests stateTests logReleaseTests
 log-release-asked machine thread lock value fails = record {
   inThread = below-bound thread 4 (fails .0);
@@ -156,7 +164,8 @@ pub record ReleaseAsked (machine : Machine) (thread lock value : ℕ) : Type 0 w
   pub isReleasingIt : logOf machine thread .tail .releasing ≡ Lock lock
   pub lastDurable : logOf machine thread .tail .next .0 - 1 ≤ logOf machine thread .tail .durable .0
 
-pub release-asked : (machine : Machine) (thread lock value : ℕ) → AllFail (testsOf machine RELEASE thread lock value) → ReleaseAsked machine thread lock value
+pub release-asked : (machine : Machine) (thread lock value : ℕ) → AllFail (testsOf machine RELEASE thread lock value)
+    → ReleaseAsked machine thread lock value
 unfolding inputTests stateTests releaseTests
 release-asked machine thread lock value fails = record {
   inThread = below-bound thread 4 (fails .0);
@@ -193,7 +202,8 @@ pub record PruneAsked (machine : Machine) (thread : ℕ) : Type 0 where
   pub awaitsNothing : awaitsRelease (machine .locks) (liveEvent (logOf machine thread) 0) ≡ false
   pub cellsDurable : someBelow (oldestRegion (logOf machine thread)) (λ index. logsUndurable (machine .cache) (liveEvent (logOf machine thread) index)) ≡ false
 
-pub prune-asked : (machine : Machine) (thread place value : ℕ) → AllFail (testsOf machine PRUNE thread place value) → PruneAsked machine thread
+pub prune-asked : (machine : Machine) (thread place value : ℕ) → AllFail (testsOf machine PRUNE thread place value)
+    → PruneAsked machine thread
 unfolding inputTests stateTests pruneTests
 prune-asked machine thread place value fails = record {
   inThread = below-bound thread 4 (fails .0);
@@ -203,7 +213,8 @@ prune-asked machine thread place value fails = record {
   cellsDurable = fails .1 .1 .1 .1 .1 .1 .0;
 }
 
-pub evict-asked : (machine : Machine) (thread line value : ℕ) → AllFail (testsOf machine EVICT thread line value) → (thread < 4) × (line < 16)
+pub evict-asked : (machine : Machine) (thread line value : ℕ) → AllFail (testsOf machine EVICT thread line value)
+    → (thread < 4) × (line < 16)
 unfolding inputTests
 evict-asked machine thread line value fails = (below-bound thread 4 (fails .0), below-bound line 16 (fails .1 .0))
 
@@ -212,7 +223,8 @@ pub record EvictLogAsked (machine : Machine) (thread slot : ℕ) : Type 0 where
   pub inSlot : slot < 64
   pub isLive : isLiveSlot (logOf machine thread) slot ≡ true
 
-pub evict-log-asked : (machine : Machine) (thread slot value : ℕ) → AllFail (testsOf machine EVICTLOG thread slot value) → EvictLogAsked machine thread slot
+pub evict-log-asked : (machine : Machine) (thread slot value : ℕ) → AllFail (testsOf machine EVICTLOG thread slot value)
+    → EvictLogAsked machine thread slot
 unfolding inputTests stateTests evictSlotTests
 evict-log-asked machine thread slot value fails = record {
   inThread = below-bound thread 4 (fails .0);

@@ -16,7 +16,10 @@ use Rattle.ring.specs.declared.Releasing.the-variants.{Nothing}
 use Rattle.log.specs.Entries.{freshLog}
 use Rattle.log.specs.declared.Log.{Log}
 use Rattle.log.proofs.Idle.{Idle, fresh-idle}
-use Rattle.machine.specs.Holds.{threadCount, lockCount, noLog, noLock, noClock, lockOf, startClocks, freshMachine, startOf}
+use Rattle.kinds.specs.Kinds.{threadCount, lockCount}
+use Rattle.machine.specs.Holds.{noLog, lockOf, freshMachine, startOf}
+use Rattle.locks.specs.Locks.{noLock}
+use Rattle.accesses.specs.Clocks.{noClock, startClocks}
 use Rattle.machine.specs.declared.Machine.{Machine}
 use Rattle.machine.specs.declared.Stepped.{Stepped}
 

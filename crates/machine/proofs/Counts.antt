@@ -11,27 +11,30 @@ use lib.ListN.{length, getD, set, List·getD-eq-default}
 use Rattle.answer.proofs.ListLaws.{getD-blank}
 use Rattle.answer.proofs.ListCases.{set-cases}
 use Rattle.answer.proofs.RefusalLaws.{AllFail}
-use Rattle.log.specs.Entries.{liveEvent, appendTests, appendOf, flushLogOf, endReleaseOf, fenceLogOf, evictSlotOf, pruneOf}
-use Rattle.log.specs.Regions.{oldestRegion, isFinished}
+use Rattle.undo.specs.Events.{liveEvent, enterOf, endReleaseOf}
+use Rattle.cache.specs.Cache.{cachedAt}
+use Rattle.log.specs.Entries.{appendTests, flushLogOf, fenceLogOf, evictSlotOf, dropOf, appendOf}
+use Rattle.undo.specs.Regions.{oldestRegion, isFinished}
 use Rattle.ring.specs.Ring.{isReleasing, grownTail, flushedTail, fencedTail, releasedTail}
-use Rattle.log.specs.declared.Event.{Event}
-use Rattle.log.specs.declared.Event.the-variants.{Empty, Store, Acquire, Release}
+use Rattle.undo.specs.declared.Event.{Event}
+use Rattle.undo.specs.declared.Event.the-variants.{Empty, Store, Acquire, Release}
 use Rattle.log.specs.declared.Log.{Log}
 use native.Mathlib.Nat.{suc-mul}
 use Rattle.ring.specs.declared.Releasing.the-variants.{Lock}
 use Rattle.log.proofs.LogInvariant.{append-room}
-use Rattle.log.proofs.RegionLaws.{region-live, finished-some}
-use Rattle.machine.specs.Clocks.{clockAt, joinOf, raisedOf, loadedOf, loggedCellOf}
-use Rattle.machine.specs.Effects.{loadEffect, logEffect, storeEffect, acquireEffect, logReleaseEffect, releaseEffect, flushEffect, flushLogEffect, fenceEffect, pruneEffect, prunedLocks, evictEffect, evictLogEffect, effect}
-use Rattle.machine.specs.Holds.{noLog, noLock, noClock, logOf, lockOf, clockOf, lockClockOf, startClocks, startOf}
-use Rattle.machine.specs.Kinds.{Kind, LOAD, LOG, STORE, ACQUIRE, LOGREL, RELEASE, FLUSH, FLUSHLOG, FENCE, PRUNE, EVICT, EVICTLOG}
+use Rattle.undo.proofs.RegionLaws.{region-live, finished-some}
+use Rattle.accesses.specs.Clocks.{clockAt, joinOf, raisedOf, loadedOf, loggedCellOf, noClock, startClocks}
+use Rattle.machine.specs.Effects.{loadEffect, logEffect, storeEffect, acquireEffect, logReleaseEffect, releaseEffect, flushEffect, flushLogEffect, fenceEffect, pruneEffect, evictEffect, evictLogEffect, effect}
+use Rattle.locks.specs.Locks.{prunedLocks, noLock}
+use Rattle.machine.specs.Holds.{noLog, logOf, lockOf, clockOf, lockClockOf, startOf}
+use Rattle.kinds.specs.Kinds.{Kind, LOAD, LOG, STORE, ACQUIRE, LOGREL, RELEASE, FLUSH, FLUSHLOG, FENCE, PRUNE, EVICT, EVICTLOG}
 use Rattle.machine.specs.Runs.{Step, after, Reached}
-use Rattle.machine.specs.declared.Clock.{Clock}
-use Rattle.machine.specs.declared.Lock.{Lock as LockState}
+use Rattle.accesses.specs.declared.Clock.{Clock}
+use Rattle.locks.specs.declared.Lock.{Lock as LockState}
 use Rattle.machine.specs.declared.Machine.{Machine}
 use Rattle.machine.proofs.Asked.{log-asked, acquire-asked, log-release-asked, release-asked, flush-log-asked, fence-asked, prune-asked, evict-log-asked}
 use Rattle.machine.proofs.Beginnings.{machineWith, AllIdle, each-log, releases-nothing, lock-free, freshLogs, fresh-all, on-start}
-use Rattle.machine.proofs.ClockLaws.{clockAt-join, clockAt-raised-other, clockAt-raised-own, clockAt-none, start-raised}
+use Rattle.accesses.proofs.ClockLaws.{clockAt-join, clockAt-raised-other, clockAt-raised-own, clockAt-none, start-raised}
 use Rattle.machine.proofs.Sizes.{Sized, effect-sized, begin-sized}
 use Rattle.machine.proofs.StepLaws.{testsOf, after-keeps}
 
@@ -41,7 +44,8 @@ sumBy number [] = 0
 sumBy number (first ∷ list) = number first + sumBy number list
 
 -- one element changed: the old one's number goes, the new one's comes
-pub sum-set : {A : Type 0} (number : A → ℕ) (list : List A) (place : ℕ) (value default : A) → place < length list → sumBy number (set list place value) + number (getD list place default) ≡ sumBy number list + number value
+pub sum-set : {A : Type 0} (number : A → ℕ) (list : List A) (place : ℕ) (value default : A) → place < length list
+    → sumBy number (set list place value) + number (getD list place default) ≡ sumBy number list + number value
 unfolding sumBy
 sum-set number [] place value default inRange = absurd (omega arith)
 sum-set number (first ∷ list) zero value default inRange = omega arith
@@ -50,7 +54,8 @@ sum-set number (first ∷ list) (suc place) value default inRange =
     omega arith
 
 -- numbers that are all bounded have a bounded sum
-pub sum-bound : {A : Type 0} (number : A → ℕ) (list : List A) (bound : ℕ) (default : A) → ((place : ℕ) → place < length list → number (getD list place default) ≤ bound) → sumBy number list ≤ length list * bound
+pub sum-bound : {A : Type 0} (number : A → ℕ) (list : List A) (bound : ℕ) (default : A)
+    → ((place : ℕ) → place < length list → number (getD list place default) ≤ bound) → sumBy number list ≤ length list * bound
 unfolding sumBy
 sum-bound number [] bound default each = omega arith
 sum-bound number (first ∷ list) bound default each =
@@ -59,7 +64,8 @@ sum-bound number (first ∷ list) bound default each =
     rw (suc-mul (length list) bound) (omega arith)
 
 -- numbers of which each is at least 1
-pub sum-least : {A : Type 0} (number : A → ℕ) (list : List A) (default : A) → ((place : ℕ) → place < length list → 1 ≤ number (getD list place default)) → length list ≤ sumBy number list
+pub sum-least : {A : Type 0} (number : A → ℕ) (list : List A) (default : A)
+    → ((place : ℕ) → place < length list → 1 ≤ number (getD list place default)) → length list ≤ sumBy number list
 unfolding sumBy
 sum-least number [] default each = omega arith
 sum-least number (first ∷ list) default each =
@@ -130,7 +136,9 @@ stays : (lock : LockState) → Raised lock lock 0 0
 stays lock = omega arith
 
 -- clocks are within bounds that grow
-within-log : (logs : List Log) (thread : ℕ) (log : Log) → thread < length logs → nextOf (getD logs thread noLog) + closingOf log ≤ nextOf log + closingOf (getD logs thread noLog) → (clock : Clock) → Within logs clock → Within (set logs thread log) clock
+within-log : (logs : List Log) (thread : ℕ) (log : Log) → thread < length logs
+    → nextOf (getD logs thread noLog) + closingOf log ≤ nextOf log + closingOf (getD logs thread noLog) → (clock : Clock)
+    → Within logs clock → Within (set logs thread log) clock
 within-log logs thread log inRange grows clock within =
     set-cases logs thread log noLog inRange (λ other state. clockAt clock other + closingOf state ≤ nextOf state) (omega (arith, within thread)) (λ other differs. within other)
 
@@ -139,7 +147,9 @@ within-join : (logs : List Log) (one other : Clock) → Within logs one → With
 within-join logs one other first second thread = rw (clockAt-join one other thread) (omega (arith, first thread, second thread))
 
 -- a RELEASE step raises the clock of the thread that ends releasing
-within-raised : (logs : List Log) (thread : ℕ) (log : Log) → thread < 4 → thread < length logs → nextOf (getD logs thread noLog) + closingOf log + 1 ≤ nextOf log + closingOf (getD logs thread noLog) → (clock : Clock) → Within logs clock → Within (set logs thread log) (raisedOf clock thread)
+within-raised : (logs : List Log) (thread : ℕ) (log : Log) → thread < 4 → thread < length logs
+    → nextOf (getD logs thread noLog) + closingOf log + 1 ≤ nextOf log + closingOf (getD logs thread noLog) → (clock : Clock)
+    → Within logs clock → Within (set logs thread log) (raisedOf clock thread)
 within-raised logs thread log inThreads inRange grows clock within =
     set-cases
     logs
@@ -153,7 +163,8 @@ within-raised logs thread log inThreads inRange grows clock within =
 
 module _ (machine next : Machine) (counted : Counted machine) (sized : Sized next) where
   -- nothing of the logs, locks and clocks changes
-  counted-same : next .logs ≡ machine .logs → next .locks ≡ machine .locks → next .clocks ≡ machine .clocks → next .«lock_clocks» ≡ machine .«lock_clocks» → Counted next
+  counted-same : next .logs ≡ machine .logs → next .locks ≡ machine .locks → next .clocks ≡ machine .clocks
+      → next .«lock_clocks» ≡ machine .«lock_clocks» → Counted next
   counted-same sameLogs sameLocks sameClocks sameLockClocks = record {
     sized = sized;
     nextBound = λ thread. rw sameLogs (counted .nextBound thread);
@@ -169,7 +180,9 @@ module _ (machine next : Machine) (counted : Counted machine) (sized : Sized nex
     inLogs = rw (counted .sized .logs) inRange
 
     -- one log changes, and what it gains pays for the locks
-    counted-change : next .logs ≡ set (machine .logs) thread log → ((owner : ℕ) → Within (set (machine .logs) thread log) (clockOf next owner)) → ((lock : ℕ) → Within (set (machine .logs) thread log) (lockClockOf next lock)) → Counted next
+    counted-change : next .logs ≡ set (machine .logs) thread log
+        → ((owner : ℕ) → Within (set (machine .logs) thread log) (clockOf next owner))
+        → ((lock : ℕ) → Within (set (machine .logs) thread log) (lockClockOf next lock)) → Counted next
     counted-change isSet clocks lockClocks =
         let nexts = sum-set nextOf (machine .logs) thread log noLog inLogs in
         let closings = sum-set closingOf (machine .logs) thread log noLog inLogs in
@@ -185,7 +198,8 @@ module _ (machine next : Machine) (counted : Counted machine) (sized : Sized nex
         }
 
     -- one log changes, and no clock
-    counted-log : next .logs ≡ set (machine .logs) thread log → next .clocks ≡ machine .clocks → next .«lock_clocks» ≡ machine .«lock_clocks» → Counted next
+    counted-log : next .logs ≡ set (machine .logs) thread log → next .clocks ≡ machine .clocks
+        → next .«lock_clocks» ≡ machine .«lock_clocks» → Counted next
     counted-log isSet sameClocks sameLockClocks =
         let grows = within-log (machine .logs) thread log inLogs (omega arith) in
         counted-change isSet (λ owner. rw sameClocks (grows (clockOf machine owner) (counted .clocks owner))) (λ lock. rw sameLockClocks (grows (lockClockOf machine lock) (counted .lockClocks lock)))
@@ -198,40 +212,46 @@ closing-most log = by-flag (isReleasing (log .tail .releasing))
     by-flag false = omega arith
 
 -- an append makes an entry more, which may be a RELEASE
-append-pays : (log : Log) (event : Event) → AllFail (appendTests log) → headOf log ≤ nextOf log → Pays log (appendOf log event) 0 0
+append-pays : (log : Log) (event : Event) → AllFail (appendTests log) → headOf log ≤ nextOf log → Pays log (enterOf log event) 0 0
 unfolding appendOf grownTail
-append-pays log event fails live = omega (arith, append-room log fails .0, closing-most (appendOf log event))
+append-pays log event fails live = omega (arith, append-room log fails .0, closing-most (enterOf log event))
 
 -- a RELEASE step uses up what the thread has been releasing
-ends-pays : (log : Log) (lock : ℕ) → log .tail .releasing ≡ Lock lock → nextOf log ≤ 1000001 → headOf log ≤ nextOf log → Pays log (endReleaseOf log) 1 0
+ends-pays : (log : Log) (lock : ℕ) → log .tail .releasing ≡ Lock lock → nextOf log ≤ 1000001 → headOf log ≤ nextOf log
+    → Pays log (endReleaseOf log) 1 0
 unfolding endReleaseOf releasedTail
 ends-pays log lock releases bound live = let closing : closingOf log ≡ 1 = rw releases in omega arith
 
 -- the head moves past a finished region
-prune-pays : (log : Log) → isFinished log ≡ true → nextOf log ≤ 1000001 → headOf log ≤ nextOf log → Pays log (pruneOf log (oldestRegion log)) 0 1
-unfolding pruneOf
+prune-pays : (log : Log) → isFinished log ≡ true → nextOf log ≤ 1000001 → headOf log ≤ nextOf log
+    → Pays log (dropOf log (oldestRegion log)) 0 1
+unfolding dropOf
 prune-pays log finished bound live = omega (arith, finished-some log finished, region-live log)
 
 -- a lock that is changed: its counts, and the others' as they were
-changed-lock : (locks : List LockState) (place : ℕ) (state : LockState) (released pruned : ℕ) → Raised (getD locks place noLock) state released pruned → (lock : ℕ) → Raised (getD locks lock noLock) (getD (set locks place state) lock noLock) released pruned
+changed-lock : (locks : List LockState) (place : ℕ) (state : LockState) (released pruned : ℕ)
+    → Raised (getD locks place noLock) state released pruned → (lock : ℕ)
+    → Raised (getD locks lock noLock) (getD (set locks place state) lock noLock) released pruned
 changed-lock [] place state released pruned self lock = omega arith
 changed-lock (first ∷ locks) zero state released pruned self zero = self
 changed-lock (first ∷ locks) zero state released pruned self (suc lock) = omega arith
 changed-lock (first ∷ locks) (suc place) state released pruned self zero = omega arith
 changed-lock (first ∷ locks) (suc place) state released pruned self (suc lock) = changed-lock locks place state released pruned self lock
 
-pruned-locks : (locks : List LockState) (last : Event) (lock : ℕ) → Raised (getD locks lock noLock) (getD (prunedLocks locks last) lock noLock) 0 1
+pruned-locks : (locks : List LockState) (last : Event) (lock : ℕ)
+    → Raised (getD locks lock noLock) (getD (prunedLocks locks last) lock noLock) 0 1
 pruned-locks locks Empty lock = omega arith
 pruned-locks locks (Store cell old) lock = omega arith
 pruned-locks locks (Acquire held count) lock = omega arith
 pruned-locks locks (Release held count) lock = changed-lock locks held _ 0 1 (omega arith) lock
 
-pub effect-counted : (machine : Machine) → Counted machine → (kind : Kind) (thread place value : ℕ) → AllFail (testsOf machine kind thread place value) → Counted (effect machine kind thread place value .machine)
+pub effect-counted : (machine : Machine) → Counted machine → (kind : Kind) (thread place value : ℕ)
+    → AllFail (testsOf machine kind thread place value) → Counted (effect machine kind thread place value .machine)
 unfolding effect loadEffect logEffect storeEffect acquireEffect logReleaseEffect releaseEffect flushEffect flushLogEffect fenceEffect pruneEffect evictEffect evictLogEffect loadedOf loggedCellOf flushLogOf flushedTail endReleaseOf releasedTail fenceLogOf fencedTail evictSlotOf
 effect-counted machine counted LOAD thread place value fails = counted-same machine _ counted (effect-sized machine (counted .sized) LOAD thread place value fails) refl refl refl refl
 effect-counted machine counted LOG thread place value fails =
     let asked = log-asked machine thread place value fails in
-    counted-log machine _ counted (effect-sized machine (counted .sized) LOG thread place value fails) thread _ 0 0 (asked .inThread) (append-pays (logOf machine thread) _ (asked .room) (counted .headBound thread)) (λ lock. stays (lockOf machine lock)) refl refl refl
+    counted-log machine _ counted (effect-sized machine (counted .sized) LOG thread place value fails) thread _ 0 0 (asked .inThread) (append-pays (logOf machine thread) (Store place (cachedAt (machine .cache) place)) (asked .room) (counted .headBound thread)) (λ lock. stays (lockOf machine lock)) refl refl refl
 effect-counted machine counted STORE thread place value fails = counted-same machine _ counted (effect-sized machine (counted .sized) STORE thread place value fails) refl refl refl refl
 effect-counted machine counted ACQUIRE thread place value fails =
     let asked = acquire-asked machine thread place value fails in
@@ -239,7 +259,7 @@ effect-counted machine counted ACQUIRE thread place value fails =
     let inClocks : thread < length (machine .clocks) = rw (counted .sized .clocks) (asked .inThread) in
     let event = Acquire place (lockOf machine place .count) in
     let pays = append-pays (logOf machine thread) event (asked .room) (counted .headBound thread) in
-    let grows = within-log (machine .logs) thread (appendOf (logOf machine thread) event) inLogs (omega arith) in
+    let grows = within-log (machine .logs) thread (enterOf (logOf machine thread) event) inLogs (omega arith) in
     counted-change
     machine
     _
@@ -259,13 +279,13 @@ effect-counted machine counted ACQUIRE thread place value fails =
     _
     noClock
     inClocks
-    (λ owner clock. Within (set (machine .logs) thread (appendOf (logOf machine thread) event)) clock)
+    (λ owner clock. Within (set (machine .logs) thread (enterOf (logOf machine thread) event)) clock)
     (grows _ (within-join (machine .logs) (clockOf machine thread) (lockClockOf machine place) (counted .clocks thread) (counted .lockClocks place)))
     (λ owner differs. grows (clockOf machine owner) (counted .clocks owner)))
     (λ lock. grows (lockClockOf machine lock) (counted .lockClocks lock))
 effect-counted machine counted LOGREL thread place value fails =
     let asked = log-release-asked machine thread place value fails in
-    counted-log machine _ counted (effect-sized machine (counted .sized) LOGREL thread place value fails) thread _ 0 0 (asked .inThread) (append-pays (logOf machine thread) _ (asked .room) (counted .headBound thread)) (λ lock. stays (lockOf machine lock)) refl refl refl
+    counted-log machine _ counted (effect-sized machine (counted .sized) LOGREL thread place value fails) thread _ 0 0 (asked .inThread) (append-pays (logOf machine thread) (Release place (lockOf machine place .count)) (asked .room) (counted .headBound thread)) (λ lock. stays (lockOf machine lock)) refl refl refl
 effect-counted machine counted RELEASE thread place value fails =
     let asked = release-asked machine thread place value fails in
     let inLogs : thread < length (machine .logs) = rw (counted .sized .logs) (asked .inThread) in

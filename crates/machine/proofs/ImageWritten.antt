@@ -2,23 +2,23 @@
 use Prim.Native.Nat.{ℕ, _+_, _-_, _*_, _≤_, _<_}
 use native.Mathlib.Decide.{decLt, ℕ-discrete}
 use native.Mathlib.Omega.{arith}
-use mathlib.Core.Path.{_≡_, refl, sym, ap, _∙_}
+use mathlib.Core.Path.{_≡_, sym, ap, _∙_}
 use mathlib.Core.Logic.{by-cases}
 use mathlib.Core.List.{List, _++_, append-nil}
 use lib.ListN.{length, getD, set, take, drop, length-set, length-append, length-take, length-drop, drop-of-length-le, List·getD-append}
 use lib.Seq.{ext-getD, take-all, length-take-le, getD-append-add, getD-take, getD-drop, getD-set-same, getD-set-other}
 use borrow.Author.Tests.{le-ltb, lt-ltb, eq-eqb}
 use Rattle.cache.specs.Cache.{cellCount, persistedInto}
-use Rattle.cache.specs.declared.Cache.{Cache}
 use Rattle.cache.proofs.CacheLaws.{persistedInto-long}
 use Rattle.ring.specs.Ring.{slotCount}
-use Rattle.stretch.specs.Stretch.{imageWords, headsAt, entryWords, stretchWords, stretchAt, stretchOf}
+use Rattle.log.specs.Stretch.{imageWords, headsAt, entryWords, stretchWords, stretchAt, stretchOf}
 use Rattle.log.specs.Entries.{wordsOf, writtenOf}
 use Rattle.log.specs.declared.Log.{Log}
-use Rattle.stretch.proofs.ImageLaws.{Reads}
+use Rattle.log.proofs.StretchLaws.{Reads}
 use Rattle.log.proofs.SlotLaws.{length-words}
 use Rattle.log.proofs.ImageLaws.{logs-read}
-use Rattle.machine.specs.Holds.{threadCount, noLog, logOf}
+use Rattle.kinds.specs.Kinds.{threadCount}
+use Rattle.machine.specs.Holds.{noLog, logOf}
 use Rattle.machine.specs.Image.{imageOf, logInto}
 use Rattle.machine.specs.Runs.{Reached}
 use Rattle.machine.specs.declared.Machine.{Machine}
@@ -66,10 +66,12 @@ module _ (log : Log) (thread : ℕ) (image : List ℕ) (inThread : thread < thre
   into-head : getD (logInto log thread image) (headsAt + thread) 0 ≡ log .head .0
   into-head = into-front (headsAt + thread) (omega arith) ∙ getD-set-same image (headsAt + thread) (log .head .0) 0 (omega arith)
 
-  into-other : (place : ℕ) → place < stretchAt thread → (place ≡ headsAt + thread → ⊥) → getD (logInto log thread image) place 0 ≡ getD image place 0
+  into-other : (place : ℕ) → place < stretchAt thread → (place ≡ headsAt + thread → ⊥)
+      → getD (logInto log thread image) place 0 ≡ getD image place 0
   into-other place below other = into-front place below ∙ getD-set-other image (headsAt + thread) place (log .head .0) 0 other
 
-  into-stretch : (index : ℕ) → index < stretchWords → getD (logInto log thread image) (stretchAt thread + index) 0 ≡ getD (wordsOf (log .persisted)) index 0
+  into-stretch : (index : ℕ) → index < stretchWords
+      → getD (logInto log thread image) (stretchAt thread + index) 0 ≡ getD (wordsOf (log .persisted)) index 0
   into-stretch index below =
       rw into-is
       (in-part (headed log thread image) _ (stretchAt thread) (omega (arith, headed-long)) index ∙
@@ -97,7 +99,8 @@ module _ (machine : Machine) (reached : Reached machine) (cells : length (machin
   cell-at : (place : ℕ) → place < headsAt → getD (imageOf machine) place 0 ≡ getD (machine .cache .persisted) place 0
   cell-at place below = sym (getD-take headsAt (imageOf machine) place 0 below) ∙ ap (λ (front : List ℕ). getD front place 0) (reads .cellsAre)
 
-  word-at : (thread : ℕ) → thread < threadCount → (index : ℕ) → index < stretchWords → getD (imageOf machine) (stretchAt thread + index) 0 ≡ getD (wordsOf (logOf machine thread .persisted)) index 0
+  word-at : (thread : ℕ) → thread < threadCount → (index : ℕ) → index < stretchWords
+      → getD (imageOf machine) (stretchAt thread + index) 0 ≡ getD (wordsOf (logOf machine thread .persisted)) index 0
   unfolding stretchOf
   word-at thread inThread index below =
       let stretch : take stretchWords (drop (stretchAt thread) (imageOf machine)) ≡ wordsOf (logOf machine thread .persisted) = rw (lt-ltb thread 4 inThread, eq-eqb (length (imageOf machine)) imageWords (reads .lengthIs)) at (reads .stretchIs thread inThread) in
@@ -118,7 +121,8 @@ module _ (machine : Machine) (reached : Reached machine) (cells : length (machin
       }
 
   -- one more thread
-  pub written-more : (image : List ℕ) (thread : ℕ) → thread < threadCount → WrittenTo machine image thread → WrittenTo machine (logInto (logOf machine thread) thread image) (thread + 1)
+  pub written-more : (image : List ℕ) (thread : ℕ) → thread < threadCount → WrittenTo machine image thread
+      → WrittenTo machine (logInto (logOf machine thread) thread image) (thread + 1)
   written-more image thread inThread at =
       let log = logOf machine thread in
       let long = at .as-long in

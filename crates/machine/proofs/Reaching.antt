@@ -8,7 +8,8 @@ use Rattle.machine.specs.Steps.{stepOf}
 use Rattle.machine.specs.declared.Machine.{Machine}
 
 -- one step more at the end of a list
-pub after-then : (machine : Machine) (steps : List Step) (step : Step) → after machine (steps ++ (step ∷ [])) ≡ stepWith (after machine steps) step .machine
+pub after-then : (machine : Machine) (steps : List Step) (step : Step)
+    → after machine (steps ++ (step ∷ [])) ≡ stepWith (after machine steps) step .machine
 unfolding after
 after-then machine [] step = refl
 after-then machine (first ∷ steps) step = after-then (stepWith machine first .machine) steps step
@@ -17,7 +18,8 @@ pub start-reached : (words : List ℕ) → Reached (startOf words .machine)
 unfolding after
 start-reached words = record { words = words; steps = []; leads = refl }
 
-pub step-reached : (machine : Machine) (kind thread place value : ℕ) → Reached machine → Reached (stepOf machine kind thread place value .machine)
+pub step-reached : (machine : Machine) (kind thread place value : ℕ) → Reached machine
+    → Reached (stepOf machine kind thread place value .machine)
 step-reached machine kind thread place value reached =
     let step : Step = record { kind = kind; thread = thread; place = place; value = value } in
     record {

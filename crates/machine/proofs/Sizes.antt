@@ -6,15 +6,16 @@ use mathlib.Core.List.{List}
 use lib.ListN.{length, length-set}
 use lib.Seq.{getD-set-same, getD-set-other}
 use Rattle.answer.proofs.RefusalLaws.{AllFail}
-use Rattle.log.specs.Entries.{liveEvent, pruneOf}
-use Rattle.log.specs.Regions.{oldestRegion}
-use Rattle.log.specs.declared.Event.{Event}
-use Rattle.log.specs.declared.Event.the-variants.{Empty, Store, Acquire, Release}
+use Rattle.undo.specs.Events.{liveEvent}
+use Rattle.log.specs.Entries.{dropOf}
+use Rattle.undo.specs.Regions.{oldestRegion}
+use Rattle.undo.specs.declared.Event.{Event}
+use Rattle.undo.specs.declared.Event.the-variants.{Empty, Store, Acquire, Release}
 use Rattle.log.specs.declared.Log.{Log}
-use Rattle.machine.specs.Clocks.{loadedOf, loggedCellOf}
+use Rattle.accesses.specs.Clocks.{loadedOf, loggedCellOf}
 use Rattle.machine.specs.Effects.{loadEffect, logEffect, storeEffect, acquireEffect, logReleaseEffect, releaseEffect, flushEffect, flushLogEffect, fenceEffect, pruneEffect, countPruned, evictEffect, evictLogEffect, effect}
 use Rattle.machine.specs.Holds.{noLog, logOf, withLog, startOf}
-use Rattle.machine.specs.Kinds.{Kind, LOAD, LOG, STORE, ACQUIRE, LOGREL, RELEASE, FLUSH, FLUSHLOG, FENCE, PRUNE, EVICT, EVICTLOG}
+use Rattle.kinds.specs.Kinds.{Kind, LOAD, LOG, STORE, ACQUIRE, LOGREL, RELEASE, FLUSH, FLUSHLOG, FENCE, PRUNE, EVICT, EVICTLOG}
 use Rattle.machine.specs.Runs.{Step, after}
 use Rattle.machine.specs.declared.Machine.{Machine}
 use Rattle.machine.proofs.Beginnings.{machineWith, AllIdle, freshLogs, fresh-all, on-start}
@@ -55,7 +56,8 @@ withLog-sized machine thread log sized = record {
   loggers = sized .loggers;
 }
 
-pub effect-sized : (machine : Machine) → Sized machine → (kind : Kind) (thread place value : ℕ) → AllFail (testsOf machine kind thread place value) → Sized (effect machine kind thread place value .machine)
+pub effect-sized : (machine : Machine) → Sized machine → (kind : Kind) (thread place value : ℕ)
+    → AllFail (testsOf machine kind thread place value) → Sized (effect machine kind thread place value .machine)
 unfolding effect loadEffect logEffect storeEffect acquireEffect logReleaseEffect releaseEffect flushEffect flushLogEffect fenceEffect pruneEffect evictEffect evictLogEffect loadedOf loggedCellOf
 effect-sized machine sized LOAD thread place value fails = record {
   logs = sized .logs;
@@ -123,7 +125,7 @@ effect-sized machine sized FENCE thread place value fails = record {
   loggers = sized .loggers;
 }
 effect-sized machine sized PRUNE thread place value fails =
-    pruned-sized (withLog machine thread (pruneOf (logOf machine thread) (oldestRegion (logOf machine thread)))) (liveEvent (logOf machine thread) (oldestRegion (logOf machine thread) - 1)) (withLog-sized machine thread _ sized)
+    pruned-sized (withLog machine thread (dropOf (logOf machine thread) (oldestRegion (logOf machine thread)))) (liveEvent (logOf machine thread) (oldestRegion (logOf machine thread) - 1)) (withLog-sized machine thread _ sized)
 effect-sized machine sized EVICT thread place value fails = record {
   logs = sized .logs;
   clocks = sized .clocks;
@@ -152,9 +154,11 @@ pub after-sized : (words : List ℕ) (steps : List Step) → Sized (after (start
 after-sized words steps = after-keeps Sized effect-sized (startOf words .machine) (on-start Sized (λ cells isLength. begin-sized cells freshLogs fresh-all) words) steps
 
 -- a log that is put in place is found there, and the other threads' logs are as they were
-pub logOf-same : (machine : Machine) (thread : ℕ) (log : Log) → Sized machine → thread < 4 → logOf (withLog machine thread log) thread ≡ log
+pub logOf-same : (machine : Machine) (thread : ℕ) (log : Log) → Sized machine → thread < 4
+    → logOf (withLog machine thread log) thread ≡ log
 logOf-same machine thread log sized inRange =
     getD-set-same (machine .logs) thread log noLog (rw (← sized .logs) at inRange)
 
-pub logOf-other : (machine : Machine) (thread other : ℕ) (log : Log) → other ≢ thread → logOf (withLog machine thread log) other ≡ logOf machine other
+pub logOf-other : (machine : Machine) (thread other : ℕ) (log : Log) → other ≢ thread
+    → logOf (withLog machine thread log) other ≡ logOf machine other
 logOf-other machine thread other log differs = getD-set-other (machine .logs) thread other log noLog differs

@@ -1,7 +1,7 @@
 -- A step either refuses and changes nothing, or every test of its kind failed and its effect happened.
 use Prim.Native.Nat.{ℕ}
 use mathlib.Core.Path.{_≡_, refl}
-use mathlib.Core.Bool.{Bool, true, false}
+use mathlib.Core.Bool.{false}
 use mathlib.Core.List.{List, [], _∷_, _++_}
 use mathlib.Core.Option.{Option, none, some}
 use Rattle.answer.specs.Answer.{isAccepted}
@@ -9,19 +9,17 @@ use Rattle.answer.specs.Refusals.{Test}
 use Rattle.answer.specs.declared.Answer.{Answer}
 use Rattle.answer.specs.declared.Answer.the-variants.{NoSuchKind}
 use Rattle.answer.proofs.RefusalLaws.{AllFail, AllRefuse, allRefuse-append, unless-cases}
+use Rattle.kinds.proofs.Inputs.{input-refuses}
 use Rattle.ring.specs.Ring.{roomTests}
 use Rattle.log.specs.Entries.{evictSlotTests}
 use Rattle.machine.specs.Effects.{effect}
-use Rattle.machine.specs.Kinds.{Kind, LOAD, LOG, STORE, ACQUIRE, LOGREL, RELEASE, FLUSH, FLUSHLOG, FENCE, PRUNE, EVICT, EVICTLOG, kindOf, inputTests}
-use Rattle.machine.specs.Refusals.{loadTests, logTests, storeTests, acquireTests, logReleaseTests, releaseTests, pruneTests, stateTests}
+use Rattle.kinds.specs.Kinds.{Kind, LOAD, LOG, STORE, ACQUIRE, LOGREL, RELEASE, FLUSH, FLUSHLOG, FENCE, PRUNE, EVICT, EVICTLOG, kindOf, inputTests}
+use Rattle.machine.specs.Refusals.{loadTests, logTests, storeTests, acquireTests, logReleaseTests, stateTests}
+use Rattle.locks.specs.LockSteps.{releaseTests, pruneTests}
 use Rattle.machine.specs.Runs.{Step, stepWith, after}
 use Rattle.machine.specs.Steps.{refused, stepOfKind, stepOfOption, stepOf}
 use Rattle.machine.specs.declared.Machine.{Machine}
 use Rattle.machine.specs.declared.Stepped.{Stepped}
-
-pub input-refuses : (kind : Kind) (thread place value : ℕ) → AllRefuse (inputTests kind thread place value)
-unfolding inputTests
-input-refuses kind thread place value = (refl, (refl, (refl, tt)))
 
 pub state-refuses : (machine : Machine) (kind : Kind) (thread place : ℕ) → AllRefuse (stateTests machine kind thread place)
 unfolding stateTests loadTests logTests storeTests acquireTests logReleaseTests releaseTests pruneTests roomTests evictSlotTests
@@ -43,7 +41,9 @@ abbrev pub testsOf : Machine → Kind → ℕ → ℕ → ℕ → List Test
 testsOf machine kind thread place value = inputTests kind thread place value ++ stateTests machine kind thread place
 
 module _ (machine : Machine) (Q : Stepped → Type 0) (onRefusal : (answer : Answer) → isAccepted answer ≡ false → Q (refused machine answer)) where
-  kind-cases : (kind : Kind) (thread place value : ℕ) → (AllFail (testsOf machine kind thread place value) → Q (effect machine kind thread place value)) → Q (stepOfKind machine kind thread place value)
+  kind-cases : (kind : Kind) (thread place value : ℕ)
+      → (AllFail (testsOf machine kind thread place value) → Q (effect machine kind thread place value))
+      → Q (stepOfKind machine kind thread place value)
   unfolding stepOfKind
   kind-cases kind thread place value onEffect =
       unless-cases
@@ -59,17 +59,23 @@ module _ (machine : Machine) (Q : Stepped → Type 0) (onRefusal : (answer : Ans
       onRefusal
       onEffect
 
-  option-cases : (thread place value : ℕ) (found : Option Kind) → ((kind : Kind) → found ≡ some kind → AllFail (testsOf machine kind thread place value) → Q (effect machine kind thread place value)) → Q (stepOfOption machine found thread place value)
+  option-cases : (thread place value : ℕ) (found : Option Kind)
+      → ((kind : Kind) → found ≡ some kind → AllFail (testsOf machine kind thread place value) → Q (effect machine kind thread place value))
+      → Q (stepOfOption machine found thread place value)
   option-cases thread place value none onEffect = onRefusal NoSuchKind refl
   option-cases thread place value (some kind) onEffect = kind-cases kind thread place value (onEffect kind refl)
 
   -- what holds of every refusal, and of each effect whose tests all failed, holds of the step
-  pub step-cases : (number thread place value : ℕ) → ((kind : Kind) → kindOf number ≡ some kind → AllFail (testsOf machine kind thread place value) → Q (effect machine kind thread place value)) → Q (stepOf machine number thread place value)
+  pub step-cases : (number thread place value : ℕ)
+      → ((kind : Kind) → kindOf number ≡ some kind → AllFail (testsOf machine kind thread place value) → Q (effect machine kind thread place value))
+      → Q (stepOf machine number thread place value)
   unfolding stepOf
   step-cases number thread place value onEffect = option-cases thread place value (kindOf number) onEffect
 
 -- what each effect keeps, each step keeps
-pub step-keeps : (P : Machine → Type 0) (machine : Machine) → P machine → ((kind : Kind) (thread place value : ℕ) → AllFail (testsOf machine kind thread place value) → P (effect machine kind thread place value .machine)) → (number thread place value : ℕ) → P (stepOf machine number thread place value .machine)
+pub step-keeps : (P : Machine → Type 0) (machine : Machine) → P machine
+    → ((kind : Kind) (thread place value : ℕ) → AllFail (testsOf machine kind thread place value) → P (effect machine kind thread place value .machine))
+    → (number thread place value : ℕ) → P (stepOf machine number thread place value .machine)
 step-keeps P machine holds onEffect number thread place value =
     step-cases
     machine
@@ -82,7 +88,9 @@ step-keeps P machine holds onEffect number thread place value =
     (λ kind isKind fails. onEffect kind thread place value fails)
 
 -- what each effect keeps holds after every list of steps
-pub after-keeps : (P : Machine → Type 0) → ((machine : Machine) → P machine → (kind : Kind) (thread place value : ℕ) → AllFail (testsOf machine kind thread place value) → P (effect machine kind thread place value .machine)) → (machine : Machine) → P machine → (steps : List Step) → P (after machine steps)
+pub after-keeps : (P : Machine → Type 0)
+    → ((machine : Machine) → P machine → (kind : Kind) (thread place value : ℕ) → AllFail (testsOf machine kind thread place value) → P (effect machine kind thread place value .machine))
+    → (machine : Machine) → P machine → (steps : List Step) → P (after machine steps)
 unfolding after
 after-keeps P onEffect machine holds [] = holds
 after-keeps P onEffect machine holds (step ∷ steps) =

@@ -4,14 +4,15 @@ use mathlib.Core.Path.{_≡_, refl, sym, ap, _∙_, subst}
 use mathlib.Core.List.{List, map}
 use lib.ListN.{length, getD, replicate, getD-replicate, length-map, List·getD-map}
 use lib.Seq.{map-set-same}
-use Rattle.log.specs.Entries.{freshLog, appendOf, flushLogOf, endReleaseOf, fenceLogOf, evictSlotOf, pruneOf}
-use Rattle.log.specs.Regions.{oldestRegion}
+use Rattle.log.specs.Entries.{freshLog, flushLogOf, fenceLogOf, evictSlotOf, dropOf, appendOf}
+use Rattle.undo.specs.Events.{endReleaseOf}
+use Rattle.undo.specs.Regions.{oldestRegion}
 use Rattle.ring.specs.Ring.{slotCount}
 use Rattle.log.specs.declared.Log.{Log}
 use Rattle.log.proofs.SlotLaws.{length-persistSlot, length-persistFrom}
 use Rattle.machine.specs.Effects.{loadEffect, logEffect, storeEffect, acquireEffect, logReleaseEffect, releaseEffect, flushEffect, flushLogEffect, fenceEffect, pruneEffect, evictEffect, evictLogEffect, effect}
-use Rattle.machine.specs.Holds.{threadCount, noLog, logOf, withLog, startOf}
-use Rattle.machine.specs.Kinds.{Kind, LOAD, LOG, STORE, ACQUIRE, LOGREL, RELEASE, FLUSH, FLUSHLOG, FENCE, PRUNE, EVICT, EVICTLOG}
+use Rattle.kinds.specs.Kinds.{threadCount, Kind, LOAD, LOG, STORE, ACQUIRE, LOGREL, RELEASE, FLUSH, FLUSHLOG, FENCE, PRUNE, EVICT, EVICTLOG}
+use Rattle.machine.specs.Holds.{noLog, logOf, withLog, startOf}
 use Rattle.machine.specs.Runs.{Reached}
 use Rattle.machine.specs.declared.Machine.{Machine}
 use Rattle.machine.proofs.Beginnings.{on-start}
@@ -27,12 +28,14 @@ pub record Stretched (machine : Machine) : Type 0 where
 
 -- a log that is put in place has as many as the one that stood there
 module _ (machine : Machine) (thread : ℕ) (log : Log) where
-  put-same : length (log .persisted) ≡ length (logOf machine thread .persisted) → slotCounts (withLog machine thread log .logs) ≡ slotCounts (machine .logs)
+  put-same : length (log .persisted) ≡ length (logOf machine thread .persisted)
+      → slotCounts (withLog machine thread log .logs) ≡ slotCounts (machine .logs)
   unfolding slotCounts
   put-same same = map-set-same (λ other. length (other .persisted)) (machine .logs) thread log noLog same
 
-effect-same : (machine : Machine) (kind : Kind) (thread place value : ℕ) → slotCounts (effect machine kind thread place value .machine .logs) ≡ slotCounts (machine .logs)
-unfolding effect loadEffect logEffect storeEffect acquireEffect logReleaseEffect releaseEffect flushEffect flushLogEffect fenceEffect pruneEffect evictEffect evictLogEffect appendOf flushLogOf endReleaseOf fenceLogOf evictSlotOf pruneOf
+effect-same : (machine : Machine) (kind : Kind) (thread place value : ℕ)
+    → slotCounts (effect machine kind thread place value .machine .logs) ≡ slotCounts (machine .logs)
+unfolding effect loadEffect logEffect storeEffect acquireEffect logReleaseEffect releaseEffect flushEffect flushLogEffect fenceEffect pruneEffect evictEffect evictLogEffect appendOf flushLogOf endReleaseOf fenceLogOf evictSlotOf dropOf
 effect-same machine LOAD thread place value = refl
 effect-same machine LOG thread place value = put-same machine thread _ refl
 effect-same machine STORE thread place value = refl
@@ -42,7 +45,7 @@ effect-same machine RELEASE thread place value = put-same machine thread _ refl
 effect-same machine FLUSH thread place value = refl
 effect-same machine FLUSHLOG thread place value = put-same machine thread _ refl
 effect-same machine FENCE thread place value = put-same machine thread (fenceLogOf (logOf machine thread)) (length-persistFrom _ _ _ _)
-effect-same machine PRUNE thread place value = put-same machine thread (pruneOf (logOf machine thread) (oldestRegion (logOf machine thread))) refl
+effect-same machine PRUNE thread place value = put-same machine thread (dropOf (logOf machine thread) (oldestRegion (logOf machine thread))) refl
 effect-same machine EVICT thread place value = refl
 effect-same machine EVICTLOG thread place value = put-same machine thread (evictSlotOf (logOf machine thread) place) (length-persistSlot _ _ _)
 
@@ -65,7 +68,8 @@ unfolding slotCounts
 all-logs machine stretched = sym (length-map (machine .logs) (λ log. length (log .persisted))) ∙ ap length (stretched .whole)
 
 -- a thread's log has all of its slots
-pub all-slots : (machine : Machine) → Stretched machine → (thread : ℕ) → thread < threadCount → length (logOf machine thread .persisted) ≡ slotCount
+pub all-slots : (machine : Machine) → Stretched machine → (thread : ℕ) → thread < threadCount
+    → length (logOf machine thread .persisted) ≡ slotCount
 unfolding slotCounts
 all-slots machine stretched thread below =
     sym (List·getD-map (λ log. length (log .persisted)) (machine .logs) thread noLog) ∙

@@ -1,18 +1,17 @@
 -- "Steps": what each kind does once no refusal holds, and the number that it answers.
-use Prim.Native.Nat.{ℕ, _+_, _-_}
-use mathlib.Core.List.{List}
-use lib.ListN.{getD, set}
+use Prim.Native.Nat.{ℕ, _-_}
 use Rattle.answer.specs.declared.Answer.the-variants.{Accepted}
 use Rattle.cache.specs.Cache.{cachedAt, storeOf, flushOf, fenceOf, evictOf}
-use Rattle.log.specs.Entries.{syncCount, liveEvent, appendOf, flushLogOf, endReleaseOf, fenceLogOf, evictSlotOf, pruneOf}
-use Rattle.log.specs.Regions.{oldestRegion}
-use Rattle.log.specs.declared.Event.{Event}
-use Rattle.log.specs.declared.Event.the-variants.{Empty, Store, Acquire, Release}
-use Rattle.machine.specs.Clocks.{joinOf, raisedOf, stampNow, loadedOf, loggedCellOf}
-use Rattle.machine.specs.Holds.{logOf, lockOf, clockOf, lockClockOf, withCache, withLog, withAccesses, withLock, withClock, withLockClock, takenBy, noLock, withLocks}
-use Rattle.machine.specs.Kinds.{Kind, LOAD, LOG, STORE, ACQUIRE, LOGREL, RELEASE, FLUSH, FLUSHLOG, FENCE, PRUNE, EVICT, EVICTLOG}
-use Rattle.machine.specs.declared.Holder.the-variants.{Nobody}
-use Rattle.machine.specs.declared.Lock.{Lock}
+use Rattle.undo.specs.Events.{liveEvent, enterOf, endReleaseOf}
+use Rattle.log.specs.Entries.{flushLogOf, fenceLogOf, evictSlotOf, dropOf}
+use Rattle.undo.specs.Regions.{oldestRegion}
+use Rattle.undo.specs.declared.Event.{Event}
+use Rattle.undo.specs.declared.Event.the-variants.{Store, Acquire, Release}
+use Rattle.accesses.specs.Clocks.{joinOf, raisedOf, loadedOf, loggedCellOf}
+use Rattle.machine.specs.Clocks.{stampNow}
+use Rattle.machine.specs.Holds.{logOf, lockOf, clockOf, lockClockOf, withCache, withLog, withAccesses, withLock, withClock, withLockClock, withLocks}
+use Rattle.locks.specs.Locks.{takenBy, freedOf, prunedLocks}
+use Rattle.kinds.specs.Kinds.{Kind, LOAD, LOG, STORE, ACQUIRE, LOGREL, RELEASE, FLUSH, FLUSHLOG, FENCE, PRUNE, EVICT, EVICTLOG}
 use Rattle.machine.specs.declared.Machine.{Machine}
 use Rattle.machine.specs.declared.Stepped.{Stepped}
 
@@ -33,7 +32,7 @@ logEffect machine thread cell =
     accepted
     (logOf machine thread .tail .next .0)
     (withAccesses
-    (withLog machine thread (appendOf (logOf machine thread) (Store cell (cachedAt (machine .cache) cell))))
+    (withLog machine thread (enterOf (logOf machine thread) (Store cell (cachedAt (machine .cache) cell))))
     (loggedCellOf (machine .accesses) thread cell (stampNow machine thread)))
 
 -- "STORE cell, value: sets the seen content. The cell stops being firm. All threads' marks on its line go."
@@ -47,7 +46,7 @@ acquireEffect machine thread lock =
     (lockOf machine lock .count .0)
     (withClock
     (withLock
-    (withLog machine thread (appendOf (logOf machine thread) (Acquire lock (lockOf machine lock .count))))
+    (withLog machine thread (enterOf (logOf machine thread) (Acquire lock (lockOf machine lock .count))))
     lock
     (takenBy (lockOf machine lock) thread))
     thread
@@ -58,11 +57,7 @@ unfoldable pub logReleaseEffect : Machine → ℕ → ℕ → Stepped
 logReleaseEffect machine thread lock =
     accepted
     (lockOf machine lock .count .0)
-    (withLog machine thread (appendOf (logOf machine thread) (Release lock (lockOf machine lock .count))))
-
--- a lock that is released: "frees it, adds 1 to the count"
-abbrev pub freedOf : Lock → Lock
-freedOf lock = record { holder = Nobody; count = syncCount (lock .count .0 + 1); pruned = lock .pruned }
+    (withLog machine thread (enterOf (logOf machine thread) (Release lock (lockOf machine lock .count))))
 
 -- "RELEASE lock: frees it, adds 1 to the count, ends closing." The lock gets the thread's clock.
 unfoldable pub releaseEffect : Machine → ℕ → ℕ → Stepped
@@ -96,18 +91,7 @@ fenceEffect machine thread =
     0
     (withLog (withCache machine (fenceOf (machine .cache) thread)) thread (fenceLogOf (logOf machine thread)))
 
--- a lock once one more region that ends in a RELEASE of it is pruned
-abbrev pub onePruned : Lock → Lock
-onePruned lock = record { holder = lock .holder; count = lock .count; pruned = syncCount (lock .pruned .0 + 1) }
-
 -- where the pruned region's last entry is a RELEASE, it counts for that lock
-abbrev pub prunedLocks : List Lock → Event → List Lock
-prunedLocks locks Empty = locks
-prunedLocks locks (Store cell old) = locks
-prunedLocks locks (Acquire lock count) = locks
-prunedLocks locks (Release lock count) =
-    set locks lock (onePruned (getD locks lock noLock))
-
 abbrev pub countPruned : Machine → Event → Machine
 countPruned machine last = withLocks machine (prunedLocks (machine .locks) last)
 
@@ -118,7 +102,7 @@ pruneEffect machine thread =
     accepted
     (oldestRegion log)
     (countPruned
-    (withLog machine thread (pruneOf log (oldestRegion log)))
+    (withLog machine thread (dropOf log (oldestRegion log)))
     (liveEvent log (oldestRegion log - 1)))
 
 -- "EVICT line: seen content becomes kept. Nothing becomes firm."

@@ -1,34 +1,26 @@
 -- "What the machine holds": its parts by number, the same machine with another part, and the machine of a start call.
-use Prim.Native.Nat.{ℕ, _+_, _*_}
-use mathlib.Core.Bool.{Bool, true, false, cond}
-use mathlib.Core.List.{List, [], _∷_}
+use Prim.Native.Nat.{ℕ, _*_}
+use mathlib.Core.Bool.{cond}
+use mathlib.Core.List.{List, []}
 use lib.ListN.{length, getD, set, replicate}
 use lib.Dec.{eqb}
-use Rattle.answer.specs.Lists.{tab}
-use Rattle.answer.specs.declared.Answer.{Answer}
 use Rattle.answer.specs.declared.Answer.the-variants.{Accepted, WrongLength}
 use Rattle.cache.specs.Cache.{cellCount, cacheOf}
 use Rattle.cache.specs.declared.Cache.{Cache}
 use Rattle.ring.specs.Ring.{lsn}
-use Rattle.log.specs.Entries.{syncCount, freshLog}
+use Rattle.log.specs.Entries.{freshLog}
 use Rattle.log.specs.declared.Log.{Log}
 use Rattle.ring.specs.declared.Releasing.the-variants.{Nothing}
-use Rattle.machine.specs.declared.Accesses.{Accesses}
-use Rattle.machine.specs.declared.Clock.{Clock}
-use Rattle.machine.specs.declared.Holder.{Holder}
-use Rattle.machine.specs.declared.Holder.the-variants.{Nobody, Thread}
-use Rattle.machine.specs.declared.Lock.{Lock}
+use Rattle.accesses.specs.declared.Accesses.{Accesses}
+use Rattle.accesses.specs.declared.Clock.{Clock}
+use Rattle.locks.specs.declared.Lock.{Lock}
+use Rattle.kinds.specs.Kinds.{threadCount, lockCount}
+use Rattle.accesses.specs.Clocks.{noClock, startClocks}
+use Rattle.locks.specs.Locks.{noLock}
 use Rattle.machine.specs.declared.Machine.{Machine}
 use Rattle.machine.specs.declared.Stepped.{Stepped}
 
--- "4 threads (0 to 3), 8 locks (0 to 7)"
-abbrev pub threadCount : ℕ
-threadCount = 4
-
-abbrev pub lockCount : ℕ
-lockCount = 8
-
--- what stands at a number past the end of an array: never read by a step whose fields are in range
+-- what stands at a number past the end of the array of logs: never read by a step whose fields are in range
 abbrev pub noLog : Log
 noLog = record {
   cached = [];
@@ -36,12 +28,6 @@ noLog = record {
   head = lsn 0;
   tail = record { next = lsn 0; durable = lsn 0; flushed = lsn 0; releasing = Nothing };
 }
-
-abbrev pub noClock : Clock
-noClock = record { t0 = 0; t1 = 0; t2 = 0; t3 = 0 }
-
-abbrev pub noLock : Lock
-noLock = record { holder = Nobody; count = syncCount 0; pruned = syncCount 0 }
 
 -- the machine's parts by number
 abbrev pub logOf : Machine → ℕ → Log
@@ -119,28 +105,6 @@ withLockClock machine lock clock = record {
   locks = machine .locks;
   accesses = machine .accesses;
 }
-
--- the lock is held by anyone, in document 01's words
-abbrev pub isHeld : Holder → Bool
-isHeld Nobody = false
-isHeld (Thread holder) = true
-
--- the lock is held by this thread
-abbrev pub isHeldBy : Holder → ℕ → Bool
-isHeldBy Nobody thread = false
-isHeldBy (Thread holder) thread = eqb holder thread
-
--- the lock with this thread as its holder
-abbrev pub takenBy : Lock → ℕ → Lock
-takenBy lock thread = record { holder = Thread thread; count = lock .count; pruned = lock .pruned }
-
--- no step was taken: a thread's own number is 1
-abbrev pub startClocks : List Clock
-startClocks =
-    record { t0 = 1; t1 = 0; t2 = 0; t3 = 0 } ∷
-    record { t0 = 0; t1 = 1; t2 = 0; t3 = 0 } ∷
-    record { t0 = 0; t1 = 0; t2 = 1; t3 = 0 } ∷
-    record { t0 = 0; t1 = 0; t2 = 0; t3 = 1 } ∷ []
 
 -- the machine at the start, with these cells: nothing logged, nothing held, nothing accessed
 unfoldable pub freshMachine : List ℕ → Machine

@@ -6,7 +6,7 @@ use lib.ListN.{length, set, take, drop}
 use lib.Dec.{eqb}
 use Rattle.answer.specs.Refusals.{_⇒_, unless, Outcome}
 use Rattle.answer.specs.declared.Answer.the-variants.{Accepted, WrongLength}
-use Rattle.stretch.specs.Stretch.{imageWords, headsAt, stretchAt}
+use Rattle.log.specs.Stretch.{imageWords, headsAt, stretchAt}
 use Rattle.log.specs.Entries.{wordsOf, writtenOf}
 use Rattle.log.specs.declared.Log.{Log}
 use Rattle.machine.specs.declared.Machine.{Machine}

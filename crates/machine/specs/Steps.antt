@@ -6,7 +6,7 @@ use Rattle.answer.specs.Refusals.{unless}
 use Rattle.answer.specs.declared.Answer.{Answer}
 use Rattle.answer.specs.declared.Answer.the-variants.{NoSuchKind}
 use Rattle.machine.specs.Effects.{effect}
-use Rattle.machine.specs.Kinds.{Kind, kindOf, inputTests}
+use Rattle.kinds.specs.Kinds.{Kind, kindOf, inputTests}
 use Rattle.machine.specs.Refusals.{stateTests}
 use Rattle.machine.specs.declared.Machine.{Machine}
 use Rattle.machine.specs.declared.Stepped.{Stepped}

@@ -58,7 +58,7 @@ fn all_steps() -> [u64; 4032]
 
 // The number beside the last answer of a run, and 0 where it is a refusal.
 fn last_given(start: &[u64], steps: &[u64]) -> u64 {
-    let stepped = atomicity::run(start, steps);
+    let stepped = replay::run(start, steps);
     let answer = stepped.answer;
     answer::value(answer)
 }

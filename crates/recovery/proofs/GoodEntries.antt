@@ -6,7 +6,7 @@ use native.Mathlib.Omega.{arith}
 use borrow.Author.Tests.{ltb-true, not-false, eq-eqb, ne-eqb}
 use lib.Dec.{ltb}
 use Rattle.answer.proofs.BelowLaws.{someBelow-none}
-use Rattle.stretch.specs.Stretch.{headsAt}
+use Rattle.log.specs.Stretch.{headsAt}
 use Rattle.recovery.specs.Undo.{StoredLog, entryKind, entryPlace, entryValue}
 use Rattle.recovery.specs.Recover.{isBadEntry, hasBadEntry}
 use Rattle.recovery.specs.Reading.{entryIn, Good}

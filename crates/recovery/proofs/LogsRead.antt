@@ -5,7 +5,7 @@ use mathlib.Core.List.{List, []}
 use lib.ListN.{length, getD, length-map}
 use Rattle.answer.specs.Lists.{tab}
 use Rattle.answer.proofs.ListLaws.{length-tab, getD-tab, map-tab}
-use Rattle.stretch.specs.Stretch.{headsAt, stretchOf, presentOf}
+use Rattle.log.specs.Stretch.{headsAt, stretchOf, presentOf}
 use Rattle.recovery.specs.Undo.{threadCount, StoredLog, storedLogs, leftOf, undoStart}
 use Rattle.recovery.specs.Reading.{logOf, logIn}
 

@@ -9,7 +9,7 @@ use Rattle.answer.specs.Lists.{someBelow}
 use Rattle.answer.specs.Refusals.{unless, Outcome}
 use Rattle.answer.specs.declared.Answer.{Answer}
 use Rattle.answer.specs.declared.Answer.the-variants.{Accepted, WrongLength, BadHead, BadEntry, Cyclic}
-use Rattle.stretch.specs.Stretch.{imageWords, headsAt}
+use Rattle.log.specs.Stretch.{imageWords, headsAt}
 use Rattle.recovery.specs.Undo.{threadCount, undone, hasLeft}
 use Rattle.recovery.specs.Recover.{isBadHead, hasBadEntry, recoverTests, recoverOf}
 use Rattle.recovery.specs.Reading.{logIn}

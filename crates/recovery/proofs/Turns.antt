@@ -10,7 +10,7 @@ use native.Mathlib.Omega.{arith}
 use lib.ListN.{length, set, take, length-set}
 use lib.Seq.{getD-set-same, getD-set-other}
 use lib.Dec.{eqb}
-use Rattle.stretch.specs.Stretch.{headsAt}
+use Rattle.log.specs.Stretch.{headsAt}
 use Rattle.recovery.specs.Undo.{threadCount, storedLogs, Undo, leftOf, lowestFrom, takeLast, takeMany, undoStart, undone}
 use Rattle.recovery.specs.Reading.{logIn, entryIn, Good, nextOf}
 use Rattle.recovery.specs.Latest.{lockCount, latestAcquire, latestLeft, Readable, Tracked}

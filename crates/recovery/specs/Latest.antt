@@ -6,7 +6,7 @@ use mathlib.Core.List.{List}
 use lib.ListN.{length}
 use lib.Dec.{eqb, ltb}
 use Rattle.answer.specs.Lists.{tab}
-use Rattle.stretch.specs.Stretch.{imageWords, presentOf}
+use Rattle.log.specs.Stretch.{imageWords, presentOf}
 use Rattle.recovery.specs.Undo.{threadCount, StoredLog, entryKind, entryPlace, entryValue, leftOf}
 use Rattle.recovery.specs.Recover.{hasBadEntry}
 use Rattle.recovery.specs.Reading.{logIn}

@@ -8,7 +8,7 @@ use Rattle.answer.specs.Lists.{someBelow}
 use Rattle.answer.specs.Refusals.{Test, _⇒_, unless, Outcome}
 use Rattle.answer.specs.declared.Answer.the-variants.{Accepted, WrongLength, BadHead, BadEntry, Cyclic}
 use Rattle.ring.specs.Ring.{lastLsn}
-use Rattle.stretch.specs.Stretch.{imageWords, headsAt, presentOf}
+use Rattle.log.specs.Stretch.{imageWords, headsAt, presentOf}
 use Rattle.recovery.specs.Undo.{threadCount, StoredLog, storedLogs, storedLog, entryKind, entryPlace, entryValue, undone, hasLeft}
 
 -- "22: a head outside 1 to 1,000,001"

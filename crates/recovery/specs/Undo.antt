@@ -7,7 +7,7 @@ use mathlib.Core.Option.{Option, none, some}
 use lib.ListN.{getD, set, take}
 use lib.Dec.{eqb, ltb}
 use Rattle.answer.specs.Lists.{tab, someBelow}
-use Rattle.stretch.specs.Stretch.{headsAt, stretchOf, kindAt, placeAt, valueAt, presentOf}
+use Rattle.log.specs.Stretch.{headsAt, stretchOf, kindAt, placeAt, valueAt, presentOf}
 
 -- "4 threads (0 to 3)"
 abbrev pub threadCount : ℕ

@@ -6,7 +6,7 @@ ghost use Prim.Native.Nat.{_+_, _*_, _<_, _≤_};
 ghost use lib.ListN.{length, getD, set, take};
 ghost use lib.Dec.{eqb, ltb};
 ghost use Rattle.answer.specs.Lists.{someBelow};
-ghost use Rattle.stretch.specs.Stretch.{imageWords, headsAt};
+ghost use Rattle.log.specs.Stretch.{imageWords, headsAt};
 ghost use Rattle.recovery.specs.Undo.{threadCount, storedLogs, leftOf, mayTake, lowestFrom, undoStart, undone};
 ghost use Rattle.recovery.specs.Recover.{lastSyncCount, isBadHead, isBadEntry, hasBadEntry, recoverOf};
 ghost use Rattle.recovery.specs.Reading.{logOf, logIn, entryIn, Good, nextOf, undoOf};
@@ -58,9 +58,9 @@ fn read_entry(stretch: &[u64], head: u64, index: usize) -> Entry
 {
     let number = head % 64 + index as u64 % 64;
     Entry {
-        kind: stretch::word(stretch, number, 0),
-        place: stretch::word(stretch, number, 1),
-        value: stretch::word(stretch, number, 2),
+        kind: log::word(stretch, number, 0),
+        place: log::word(stretch, number, 1),
+        value: log::word(stretch, number, 2),
     }
 }
 
@@ -69,11 +69,7 @@ fn entry_of(image: &[u64], thread: usize, index: usize) -> Entry
     requires { ⌜ (length (now image) ≡ imageWords) × (thread < threadCount) ⌝ }
     ensures { λ r. ⌜ r ≡ entryIn (logIn (now (image .entry)) thread) index ⌝ }
 {
-    read_entry(
-        stretch::stretch(image, thread),
-        head_of(image, thread),
-        index,
-    )
+    read_entry(log::stretch(image, thread), head_of(image, thread), index)
 }
 
 // A head outside 1 to 1,000,001.
@@ -131,7 +127,7 @@ fn is_bad_entry(entry: Entry) -> bool
 fn has_bad_entry(stretch: &[u64], head: u64) -> bool
     ensures { λ r. ⌜ r ≡ hasBadEntry (logOf (now (stretch .entry)) head) ⌝ }
 {
-    let present = stretch::present(stretch, head);
+    let present = log::present(stretch, head);
     let mut index = 0;
     while index < present {
         if is_bad_entry(read_entry(stretch, head, index)) {
@@ -149,7 +145,7 @@ fn has_bad_entries(image: &[u64]) -> bool
 {
     let mut thread = 0;
     while thread < THREADS {
-        if has_bad_entry(stretch::stretch(image, thread), head_of(image, thread)) {
+        if has_bad_entry(log::stretch(image, thread), head_of(image, thread)) {
             return true;
         }
         thread += 1;
@@ -192,7 +188,7 @@ fn latest_of(image: &[u64], thread: usize, left: usize, lock: u64) -> u64
     ensures { λ r. ⌜ r ≡ latestAcquire (logIn (now (image .entry)) thread) left lock ⌝ }
 {
     latest_acquire(
-        stretch::stretch(image, thread),
+        log::stretch(image, thread),
         head_of(image, thread),
         left,
         lock,
@@ -303,8 +299,8 @@ fn present_entries(image: &[u64]) -> [usize; THREADS]
     let mut left = [0; THREADS];
     let mut thread = 0;
     while thread < THREADS {
-        let stretch = stretch::stretch(image, thread);
-        let present = stretch::present(stretch, head_of(image, thread));
+        let stretch = log::stretch(image, thread);
+        let present = log::present(stretch, head_of(image, thread));
         left[thread] = present;
         thread += 1;
     }

@@ -84,5 +84,6 @@ module _ {M : Type 1} (𝓤 : URA M) (H : Heap 𝓤) (A : Atoms 𝓤) (head : Ls
   pub others-owned : ent 𝓤 (emp 𝓤) (sem 𝓤 H A (owns others (head, (closes, tt)) (others-at head closes)))
   others-owned = owns-make 𝓤 H A others (Ises others) (lsns .makes 𝓤 H A, (releasings .makes 𝓤 H A, tt)) (head, (closes, tt)) (others-at head closes) (head-is, (closes-is, tt))
 
-  pub all-owned : (tail : Tail) → Is tail-type.the-row tail (tails .val tail ∷ []) → ent 𝓤 (emp 𝓤) (sem 𝓤 H A (owns all (tail, (head, (closes, tt))) (all-at tail head closes)))
+  pub all-owned : (tail : Tail) → Is tail-type.the-row tail (tails .val tail ∷ [])
+      → ent 𝓤 (emp 𝓤) (sem 𝓤 H A (owns all (tail, (head, (closes, tt))) (all-at tail head closes)))
   all-owned tail tail-is = owns-make 𝓤 H A all (Ises all) (tails .makes 𝓤 H A, (lsns .makes 𝓤 H A, (releasings .makes 𝓤 H A, tt))) (tail, (head, (closes, tt))) (all-at tail head closes) (tail-is, (head-is, (closes-is, tt)))

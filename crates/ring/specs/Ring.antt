@@ -31,6 +31,10 @@ slotOf number = number % slotCount
 abbrev pub nextSlotOf : ℕ → ℕ
 nextSlotOf slot = slotOf (slot + 1)
 
+-- "Live entries have rank head or more": how many there are
+abbrev pub liveOf : Tail → ℕ → ℕ
+liveOf tail head = tail .next .0 - head
+
 -- the thread is closing, in document 01's words
 abbrev pub isReleasing : Releasing → Bool
 isReleasing Nothing = false

@@ -1,7 +1,9 @@
 // Log sequence numbers, and the record of how far a log has come. Knows nothing of what an entry says.
 ghost use mathlib.Core.Path.{_≡_};
-ghost use Prim.Native.Nat.{_-_};
-ghost use Rattle.ring.specs.Ring.{nextSlotOf, isReleasing, isReleasingLock, freshTail, closedBy, growOf, flushedTail, fencedTail, releasedTail};
+ghost use Prim.Native.Nat.{_+_, _-_};
+ghost use lib.Dec.{eqb};
+ghost use Rattle.answer.specs.Lists.{someBelow};
+ghost use Rattle.ring.specs.Ring.{slotOf, nextSlotOf, liveOf, isReleasing, isReleasingLock, closedBy, growOf, flushedTail, fencedTail, releasedTail};
 use answer::Answer;
 
 // The slots of a log.
@@ -21,10 +23,10 @@ pub enum Releasing {
 
 // The thread's record: the next LSN, the last durable one, the last flushed one, and the lock being released.
 pub struct Tail {
-    next: Lsn,
-    durable: Lsn,
-    flushed: Lsn,
-    releasing: Releasing,
+    pub next: Lsn,
+    pub durable: Lsn,
+    pub flushed: Lsn,
+    pub releasing: Releasing,
 }
 
 // What an append answers, beside the thread's record after it.
@@ -33,12 +35,30 @@ pub struct Grown {
     pub tail: Tail,
 }
 
-// The slot of the LSN after the one in this slot: 0 after 63. Any other number stands for the slot that it leaves as a remainder, so no sum wraps.
-pub fn next_slot(slot: usize) -> usize
+// The slot of the LSN after the one in this slot: 0 after 63. Numbers from 64 on, which are no slots, answer the slot of the number after.
+pub fn next_slot(slot: u8) -> usize
     ensures { λ r. ⌜ r ≡ nextSlotOf slot ⌝ }
 {
-    let here = slot % SLOTS;
+    let here = slot as usize % SLOTS;
     if here < SLOTS - 1 { here + 1 } else { 0 }
+}
+
+// The slot of the LSN that is so many after this one.
+pub fn slot_after(lsn: Lsn, count: usize) -> usize
+    ensures { λ r. ⌜ r ≡ slotOf (lsn .0 + count) ⌝ }
+{
+    (lsn.0 as usize % SLOTS + count % SLOTS) % SLOTS
+}
+
+// Of so many LSNs from this one on, one sits in the slot.
+pub fn has_slot(first: Lsn, count: u32, slot: usize) -> bool
+    ensures { λ r. ⌜ r ≡ someBelow count (λ index. eqb (slotOf (first .0 + index)) slot) ⌝ }
+{
+    if SLOTS <= slot {
+        return false;
+    }
+    let ahead = (slot + SLOTS - first.0 as usize % SLOTS) % SLOTS;
+    ahead < count as usize
 }
 
 impl Lsn {
@@ -67,37 +87,12 @@ impl Releasing {
 }
 
 impl Tail {
-    // The record of a thread that has made no entry.
-    pub fn fresh() -> Tail
-        ensures { λ r. ⌜ r ≡ freshTail ⌝ }
+    // How many entries are live, from this head on.
+    pub fn live_count(self, head: Lsn) -> u32
+        ensures { λ r. ⌜ r ≡ liveOf self (head .0) ⌝ }
     {
-        Tail {
-            next: Lsn(1),
-            durable: Lsn(0),
-            flushed: Lsn(0),
-            releasing: Releasing::Nothing,
-        }
-    }
-
-    // The LSN that the next entry gets.
-    pub fn next_lsn(self) -> Lsn
-        ensures { λ r. ⌜ r ≡ self .next ⌝ }
-    {
-        self.next
-    }
-
-    // The last LSN whose entry is durable.
-    pub fn durable_lsn(self) -> Lsn
-        ensures { λ r. ⌜ r ≡ self .durable ⌝ }
-    {
-        self.durable
-    }
-
-    // The last LSN whose entry is flushed.
-    pub fn flushed_lsn(self) -> Lsn
-        ensures { λ r. ⌜ r ≡ self .flushed ⌝ }
-    {
-        self.flushed
+        let next = self.next;
+        next.since(head)
     }
 
     // The thread has made a RELEASE entry whose RELEASE step is still to come.

@@ -1,15 +1,9 @@
 -- `corners::answers` is safe and ends.
-use Prim.Native.Nat.{_-_, _*_, _≤_, _<_}
 use native.Mathlib.Omega.{arith}
-use mathlib.Core.Path.{_≡_}
-use lib.ListN.{length, length-take, length-set}
+use lib.ListN.{length-take}
 use borrow.Author.Needs.{needs}
 use Rattle.corners.proofs.answers.Statement.{statement}
 use Rattle.corners.proofs.answers.Tie as tie
-use Rattle.corners.proofs.answers.Reads as reads
-use Rattle.corners.proofs.answers.Lts as lts
-use Rattle.answer.proofs.number.Reads as number-reads
-use Rattle.atomicity.proofs.run.Reads as run-reads
 
 returns : tie.Need-returns
 returns c = search needs

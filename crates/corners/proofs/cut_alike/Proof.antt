@@ -1,19 +1,9 @@
 -- `corners::cut_alike` is safe and ends.
-use Prim.Native.Nat.{_-_, _*_, _/_, _≤_, _<_}
 use native.Mathlib.Omega.{arith}
-use mathlib.Core.Path.{_≡_}
-use lib.ListN.{length, length-take, length-set}
+use lib.ListN.{length-take}
 use borrow.Author.Needs.{needs}
 use Rattle.corners.proofs.cut_alike.Statement.{statement}
 use Rattle.corners.proofs.cut_alike.Tie as tie
-use Rattle.corners.proofs.cut_alike.Reads as reads
-use Rattle.corners.proofs.cut_alike.Lts as lts
-use Rattle.answer.proofs.number.Reads as number-reads
-use Rattle.corners.proofs.same.Reads as same-reads
-use Rattle.machine.proofs.Machine.cut.Reads as Machine-cut-reads
-use Rattle.model.proofs.cut.Reads as cut-reads
-use Rattle.model.proofs.recover.Reads as recover-reads
-use Rattle.recovery.proofs.recover.Reads as recover-reads′
 
 returns : tie.Need-returns
 returns c = search needs

@@ -1,14 +1,10 @@
 -- `corners::full_log` is safe and ends.
-use Prim.Native.Nat.{_-_, _*_, _≤_, _<_}
-use native.Mathlib.Omega.{arith}
+use Prim.Native.Nat.{_-_, _≤_}
 use mathlib.Core.Path.{_≡_}
-use lib.ListN.{length, length-take, length-set}
+use lib.ListN.{length}
 use borrow.Author.Needs.{needs}
 use Rattle.corners.proofs.full_log.Statement.{statement}
 use Rattle.corners.proofs.full_log.Tie as tie
-use Rattle.corners.proofs.full_log.Reads as reads
-use Rattle.corners.proofs.full_log.Lts as lts
-use Rattle.corners.proofs.put.Reads as put-reads
 
 abbrev Inv-loop : tie.InvT-loop
 Inv-loop steps₀ done₀ steps done = (done ≤ 73) × (length steps ≡ 292)

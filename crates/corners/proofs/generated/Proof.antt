@@ -1,16 +1,10 @@
 -- `corners::generated` is safe and ends.
-use Prim.Native.Nat.{_-_, _*_, _≤_, _<_}
-use native.Mathlib.Omega.{arith}
+use Prim.Native.Nat.{_-_, _≤_}
 use mathlib.Core.Path.{_≡_}
-use lib.ListN.{length, length-take, length-set}
+use lib.ListN.{length}
 use borrow.Author.Needs.{needs}
 use Rattle.corners.proofs.generated.Statement.{statement}
 use Rattle.corners.proofs.generated.Tie as tie
-use Rattle.corners.proofs.generated.Reads as reads
-use Rattle.corners.proofs.generated.Lts as lts
-use Rattle.corners.proofs.next.Reads as next-reads
-use Rattle.corners.proofs.put.Reads as put-reads
-use Rattle.corners.proofs.step_at.Reads as step-at-reads
 
 abbrev Inv-loop : tie.InvT-loop
 Inv-loop listing steps₀ chance₀ done₀ steps chance done = (done ≤ 200) × (length steps ≡ 800)

@@ -1,14 +1,9 @@
 -- `corners::judged_alike` is safe and ends.
-use Prim.Native.Nat.{_-_, _*_, _≤_, _<_}
 use native.Mathlib.Omega.{arith}
-use mathlib.Core.Path.{_≡_}
-use lib.ListN.{length, length-take, length-set}
+use lib.ListN.{length-take}
 use borrow.Author.Needs.{needs}
 use Rattle.corners.proofs.judged_alike.Statement.{statement}
 use Rattle.corners.proofs.judged_alike.Tie as tie
-use Rattle.corners.proofs.judged_alike.Reads as reads
-use Rattle.corners.proofs.judged_alike.Lts as lts
-use Rattle.model.proofs.judge.Reads as judge-reads
 
 returns : tie.Need-returns
 returns c = search needs

@@ -3,10 +3,6 @@ use Prim.Native.Nat.{_-_, _≤_}
 use borrow.Author.Needs.{needs}
 use Rattle.corners.proofs.listings_alike.Statement.{statement}
 use Rattle.corners.proofs.listings_alike.Tie as tie
-use Rattle.corners.proofs.listings_alike.Reads as reads
-use Rattle.corners.proofs.listings_alike.Lts as lts
-use Rattle.corners.proofs.generated.Reads as generated-reads
-use Rattle.corners.proofs.run_alike.Reads as run-alike-reads
 
 abbrev Inv-loop : tie.InvT-loop
 Inv-loop alike₀ listing₀ alike listing = listing ≤ 200

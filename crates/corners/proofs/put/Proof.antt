@@ -1,13 +1,9 @@
 -- `corners::put` is safe and ends.
-use Prim.Native.Nat.{_-_, _*_, _≤_, _<_}
 use native.Mathlib.Omega.{arith}
-use mathlib.Core.Path.{_≡_}
-use lib.ListN.{length, length-take, length-set}
+use lib.ListN.{length-set}
 use borrow.Author.Needs.{needs}
 use Rattle.corners.proofs.put.Statement.{statement}
 use Rattle.corners.proofs.put.Tie as tie
-use Rattle.corners.proofs.put.Reads as reads
-use Rattle.corners.proofs.put.Lts as lts
 
 mul-steps : tie.Need-mul-steps
 mul-steps c = search needs

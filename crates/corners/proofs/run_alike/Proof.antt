@@ -1,25 +1,17 @@
 -- `corners::run_alike` is safe and ends.
-use Prim.Native.Nat.{_-_, _*_, _/_, _≤_, _<_}
+use Prim.Native.Nat.{_-_, _≤_, _<_}
 use native.Mathlib.Omega.{arith}
 use mathlib.Core.Path.{_≡_}
-use lib.ListN.{length, length-take, length-set}
+use lib.ListN.{length}
 use Rattle.machine.specs.Runs.{Reached}
 use Rattle.machine.proofs.Reaching.{start-reached, step-reached}
 use borrow.Author.Needs.{needs}
 use Rattle.corners.proofs.run_alike.Statement.{statement}
 use Rattle.corners.proofs.run_alike.Tie as tie
-use Rattle.corners.proofs.run_alike.Reads as reads
-use Rattle.corners.proofs.run_alike.Lts as lts
-use Rattle.answer.proofs.number.Reads as number-reads
-use Rattle.answer.proofs.value.Reads as value-reads
-use Rattle.corners.proofs.cut_alike.Reads as cut-alike-reads
-use Rattle.corners.proofs.judged_alike.Reads as judged-alike-reads
-use Rattle.corners.proofs.push.Reads as push-reads
-use Rattle.machine.proofs.Machine.start.Reads as start-reads
-use Rattle.machine.proofs.Machine.step.Reads as step-reads
 
 abbrev Inv-loop : tie.InvT-loop
-Inv-loop steps machine₀ past₀ accepted₀ count done₀ machine past accepted done = (done ≤ count) × Reached machine × (length past ≡ 800) × (count < 18446744073709551615)
+Inv-loop steps machine₀ past₀ accepted₀ count done₀ machine past accepted done =
+    (done ≤ count) × Reached machine × (length past ≡ 800) × (count < 18446744073709551615)
 
 abbrev μ-loop : tie.MeasureT-loop
 μ-loop steps machine₀ past₀ accepted₀ count done₀ machine past accepted done = count - done
@@ -97,19 +89,31 @@ slice-aggregate-cut-alike : tie.Need-slice-aggregate-cut-alike Inv-loop μ-loop
 slice-aggregate-cut-alike c = search needs
 
 cut-alike-requires : tie.Need-cut-alike-requires Inv-loop μ-loop
-cut-alike-requires c κs = rw (c .before .before .before .before .before .before .before .before .before .before .before .step .ensures) (step-reached _ _ _ _ _ (c .before .before .before .before .before .before .before .before .before .before .before .before .before .before .before .before .before .loop .inv .1))
+cut-alike-requires c κs =
+    let stepped = c .before .before .before .before .before .before .before .before .before .before .before in
+    rw (stepped .step .ensures) (step-reached _ _ _ _ _ (stepped .before .before .before .before .before .before .loop .inv .1))
 
 returns-2 : tie.Need-returns-2 Inv-loop μ-loop
 returns-2 c = search needs
 
 add-done : tie.Need-add-done Inv-loop μ-loop
-add-done c = let less = c .before .before .before .before .before .before .before .before .before .before .before .before .before .before .before .loop-test .taken in let few = c .before .before .before .before .before .before .before .before .before .before .before .before .before .before .before .before .loop .inv .3 in search needs
+add-done c =
+    let stepped = c .before .before .before .before .before .before .before .before .before in
+    let entered = stepped .before .before .before .before .before .before in
+    let less = entered .loop-test .taken in
+    let few = entered .before .loop .inv .3 in
+    search needs
 
 loop-less : tie.Need-loop-less Inv-loop μ-loop
 loop-less c = search needs
 
 loop-again : tie.Need-loop-again Inv-loop μ-loop
-loop-again c = let less = c .before .before .before .before .before .before .before .before .before .before .before .before .before .before .before .loop-test .taken in (omega arith, rw (c .before .before .before .before .before .before .before .before .before .before .step .ensures) (step-reached _ _ _ _ _ (c .before .before .before .before .before .before .before .before .before .before .before .before .before .before .before .before .loop .inv .1)), search needs, c .before .before .before .before .before .before .before .before .before .before .before .before .before .before .before .before .loop .inv .3)
+loop-again c =
+    let stepped = c .before .before .before .before .before .before .before .before .before .before in
+    let entered = stepped .before .before .before .before .before in
+    let less = entered .loop-test .taken in
+    let inv = entered .before .loop .inv in
+    (omega arith, rw (stepped .step .ensures) (step-reached _ _ _ _ _ (inv .1)), search needs, inv .3)
 
 slice-aggregate-cut-alike-2 : tie.Need-slice-aggregate-cut-alike-2 Inv-loop μ-loop
 slice-aggregate-cut-alike-2 c = search needs

@@ -1,13 +1,9 @@
 -- `corners::same` is safe and ends.
-use Prim.Native.Nat.{_-_, _*_, _≤_, _<_}
-use native.Mathlib.Omega.{arith}
-use mathlib.Core.Path.{_≡_}
-use lib.ListN.{length, length-take, length-set}
+use Prim.Native.Nat.{_-_, _≤_}
+use lib.ListN.{length}
 use borrow.Author.Needs.{needs}
 use Rattle.corners.proofs.same.Statement.{statement}
 use Rattle.corners.proofs.same.Tie as tie
-use Rattle.corners.proofs.same.Reads as reads
-use Rattle.corners.proofs.same.Lts as lts
 
 abbrev Inv-loop : tie.InvT-loop
 Inv-loop one other i₀ i = i ≤ length one

@@ -9,7 +9,7 @@ use borrow.Author.Tests.{lt-ltb, le-ltb}
 use lib.ListN.{length, getD, take, drop, length-set, length-map}
 use lib.Seq.{take-all}
 use Rattle.log.specs.Entries.{wordsOf, writtenOf}
-use Rattle.log.specs.declared.PersistedSlot.{PersistedSlot}
+use Rattle.log.specs.declared.Entry.{Entry}
 use Rattle.log.proofs.Copied.{copied-more}
 use Rattle.log.proofs.SlotLaws.{length-words, slot-word}
 use Rattle.log.proofs.write_stretch.Statement.{statement}
@@ -27,7 +27,7 @@ length-mapped : (X Y : Type 0) (f : X → Y) (l : List X) (n : ℕ) → length (
 length-mapped X Y f l n is = sym (length-map l f) ∙ is
 
 -- 64 slots have 256 words
-all-words : (slots : List PersistedSlot) → length slots ≡ 64 → length (wordsOf slots) ≡ 256
+all-words : (slots : List Entry) → length slots ≡ 64 → length (wordsOf slots) ≡ 256
 all-words slots sized = length-words slots ∙ omega arith
 
 returns : tie.Need-returns Inv-loop μ-loop

@@ -1,20 +1,17 @@
 -- `machine::write_log` meets its contract: the part of the image that is lent comes back as the log's writer says.
 use borrow.Author.Needs.{needs}
 use native.Mathlib.Omega.{arith}
-use mathlib.Core.Path.{_≡_, refl, sym, ap, _∙_}
+use mathlib.Core.Path.{ap, _∙_}
 use mathlib.Core.List.{List, _++_}
 use Prim.Native.Nat.{ℕ, _+_, _-_}
 use borrow.Rule.Slice.PartMut.{same-len-mid}
 use lib.ListN.{length, set, take, length-set}
-use Rattle.stretch.specs.Stretch.{headsAt, stretchAt}
+use Rattle.log.specs.Stretch.{headsAt, stretchAt}
 use Rattle.log.specs.Entries.{writtenOf}
 use Rattle.machine.specs.Image.{logInto}
 use Rattle.machine.proofs.ImageWritten.{part-back, part-lent}
 use Rattle.machine.proofs.write_log.Statement.{statement}
 use Rattle.machine.proofs.write_log.Tie as tie
-
-head-lsn-requires : tie.Need-head-lsn-requires
-head-lsn-requires c κs = search needs
 
 cast-image : tie.Need-cast-image
 cast-image c = search needs
@@ -52,7 +49,7 @@ write-stretch-requires c κs = search needs
 same-length : tie.Need-same-length
 same-length c =
     let a = c .before .before .before .before .before .before .before .args in
-    let head = c .before .before .before .before .before .head-lsn .result .0 in
+    let head = a .log .head .0 in
     let image = set (a .image .now) (headsAt + a .thread) head in
     same-len-mid (stretchAt (a .thread)) (length image - stretchAt (a .thread)) image (c .before .before .write-stretch .last .1 .0) (c .before .before .write-stretch .kept .1 .0) ∙
     length-set (a .image .now) (headsAt + a .thread) head
@@ -61,17 +58,15 @@ returns : tie.Need-returns
 unfolding logInto
 returns c =
     let a = c .before .before .before .before .before .before .before .args in
-    let image = set (a .image .now) (headsAt + a .thread) (c .before .before .before .before .before .head-lsn .result .0) in
+    let image = set (a .image .now) (headsAt + a .thread) (a .log .head .0) in
     let at = stretchAt (a .thread) in
     part-back image (c .before .before .write-stretch .last .1 .0) at ∙
-    ap (λ (part : List ℕ). take at image ++ part) (c .before .before .write-stretch .ensures ∙ ap (writtenOf (a .log)) (part-lent image at)) ∙
-    rw (c .before .before .before .before .before .head-lsn .ensures)
+    ap (λ (part : List ℕ). take at image ++ part) (c .before .before .write-stretch .ensures ∙ ap (writtenOf (a .log)) (part-lent image at))
 
 pub write-log-spec : {M : Type 1} → statement M
 write-log-spec =
     tie.close
     (tie.spec
-    head-lsn-requires
     cast-image
     add-image
     mul-image

@@ -4,7 +4,7 @@ use native.Mathlib.Omega.{arith}
 use lib.ListN.{take, length-take}
 use lib.Seq.{getD-take}
 use borrow.Author.Needs.{needs}
-use Rattle.stretch.specs.Stretch.{headsAt}
+use Rattle.log.specs.Stretch.{headsAt}
 use Rattle.recovery.proofs.Writes.{Written, write-starts, write-on, write-ends}
 use Rattle.recovery.proofs.copy_cells.Statement.{statement}
 use Rattle.recovery.proofs.copy_cells.Tie as tie

@@ -87,7 +87,8 @@ module _ {M : Type 1} (𝓤 : URA M) (H : Heap 𝓤) (A : Atoms 𝓤) (W : Given
       qed W [] ∵ use0 W (‵ (owns all (tail, (head, (closing, tt))) (all-at tail head closing))) (all-owned 𝓤 H A head closing head-is closes-is tail tail-is) $
       nothing ! $ join ! $ nothing ! $ move ! (1 ∷ 0 ∷ []) $ done !
 
-  grown-of : (r : Grown) → ent 𝓤 (ensured 𝓤 H A grow.ended (grow.clauses 𝓤 H A at-mem run) tt (tail, (head, (closing, tt))) tt r) (fact 𝓤 (r ≡ growOf tail (head .0) closing))
+  grown-of : (r : Grown)
+      → ent 𝓤 (ensured 𝓤 H A grow.ended (grow.clauses 𝓤 H A at-mem run) tt (tail, (head, (closing, tt))) tt r) (fact 𝓤 (r ≡ growOf tail (head .0) closing))
   grown-of r = exE 𝓤 _ (λ ws. snd∗ 𝓤 (sem 𝓤 H A (lasts grow.ended tt (tail, (head, (closing, tt))) ws)) (fact 𝓤 (r ≡ growOf tail (head .0) closing)))
 
   exits : (r : Grown) → r ≡ growOf tail (head .0) closing → Is AnswerT.the-row (r .answer) (answers .val (r .answer) ∷ [])
@@ -129,7 +130,8 @@ module _ {M : Type 1} (𝓤 : URA M) (H : Heap 𝓤) (A : Atoms 𝓤) (W : Given
         keep ! (0 ∷ 1 ∷ 2 ∷ []) $ by ! (exits r e (struct-laws.owed GrownT.the-type GrownT′.the-laws r _ is .0))))))))))))))
 
 module _ {M : Type 1} (𝓤 : URA M) (H : Heap 𝓤) (A : Atoms 𝓤) (W : Given 𝓤 H A) (at-mem : Memory → SProp 𝓤) (run : Routine → Fun 𝓤) where
-  append-walks : (C : Calls 𝓤 H) (Λ : Loops 𝓤 H) → FmC 𝓤 H (W .laws) C → Triple 𝓤 (C #ring·grow) (Grow 𝓤 H A at-mem run) → Walks 𝓤 H A append.ended stayed (WpFn 𝓤 H C Λ code.function) (append.clauses 𝓤 H A at-mem run)
+  append-walks : (C : Calls 𝓤 H) (Λ : Loops 𝓤 H) → FmC 𝓤 H (W .laws) C → Triple 𝓤 (C #ring·grow) (Grow 𝓤 H A at-mem run)
+      → Walks 𝓤 H A append.ended stayed (WpFn 𝓤 H C Λ code.function) (append.clauses 𝓤 H A at-mem run)
   append-walks C Λ fm known = walked 𝓤 H A append.ended stayed (append.clauses 𝓤 H A at-mem run) (WpFn 𝓤 H C Λ code.function)
       (λ κs. (ptr-vals, ((λ l. lsns .val l ∷ []), ((λ c. releasings .val c ∷ []), tt)))) (λ κs. (mut-tells (named 0) (κs .0) TailT.the-row, (lsns .tells, (releasings .tells, tt))))
       (λ κs qs bounds a _ are. via 𝓤 _ (fst∗ 𝓤 _ (emp 𝓤)) (walk 𝓤 H A W at-mem run (κs .0) (qs .0) (a .0 .ptr .0) (a .0 .ptr .1) (a .0 .name) (a .0 .now) (a .1 .0) (a .1 .1 .0) (are .1 .0) (are .1 .1 .0) C Λ fm known))
@@ -137,7 +139,8 @@ module _ {M : Type 1} (𝓤 : URA M) (H : Heap 𝓤) (A : Atoms 𝓤) (W : Given
   all-go : AllGo 𝓤 H A W 1 (append.signature .params) (append.ended .kept) stayed
   all-go = (goes-ref 𝓤 H A W 1 0 tt (plain (λ _. TailT.the-row)), (goes-none 𝓤 H A W 1 (λ _. LsnT.the-row) yes (λ κs x f. refl), (goes-none 𝓤 H A W 1 (λ _. ReleasingT.the-row) yes (λ κs x f. refl), tt)))
 
-append-meets : {M : Type 1} (𝓤 : URA M) (H : Heap 𝓤) (A : Atoms 𝓤) → Given 𝓤 H A → (at-mem : Memory → SProp 𝓤) (run : Routine → Fun 𝓤) (𝓣 : Tables 𝓤 H) → Triple 𝓤 (𝓣 .C #ring·grow) (Grow 𝓤 H A at-mem run)
+append-meets : {M : Type 1} (𝓤 : URA M) (H : Heap 𝓤) (A : Atoms 𝓤) → Given 𝓤 H A
+    → (at-mem : Memory → SProp 𝓤) (run : Routine → Fun 𝓤) (𝓣 : Tables 𝓤 H) → Triple 𝓤 (𝓣 .C #ring·grow) (Grow 𝓤 H A at-mem run)
     → Meets 𝓤 H A append.signature (WpFn 𝓤 H (𝓣 .C) (𝓣 .Λ) code.function) (append.spec 𝓤 H A at-mem run)
 append-meets 𝓤 H A W at-mem run 𝓣 known =
     walk-meets 𝓤 H A append.ended stayed W (all-go 𝓤 H A W at-mem run) (append.clauses 𝓤 H A at-mem run) (WpFn 𝓤 H (𝓣 .C) (𝓣 .Λ) code.function) (WpFn-mono 𝓤 H (W .laws) 𝓣 code.function)

@@ -73,7 +73,8 @@ module _ {M : Type 1} (𝓤 : URA M) (H : Heap 𝓤) (A : Atoms 𝓤) (W : Given
   abbrev lying : List Val → Fml
   lying vs = fsep (cellAt fullShare (TailT.the-row .mir) vs b o) (TailT.the-row .own tail vs)
 
-  into-memory : Is TailT.the-row tail (tails .val tail ∷ []) → ent 𝓤 (H .at fullShare TailT′.mir b o (tails .val tail)) (sem 𝓤 H A (partAt TailT.the-row fullShare tail b o))
+  into-memory : Is TailT.the-row tail (tails .val tail ∷ [])
+      → ent 𝓤 (H .at fullShare TailT′.mir b o (tails .val tail)) (sem 𝓤 H A (partAt TailT.the-row fullShare tail b o))
   unfolding partOf
   into-memory tail-is =
       qed W (‵ (fat fullShare TailT′.mir b o (tails .val tail)) ∷ []) ∵ use1 W (‵ (cellAt fullShare (TailT.the-row .mir) (tails .val tail ∷ []) b o)) (W .laws .at-raw fullShare TailT′.mir b o (tails .val tail)) $
@@ -108,7 +109,8 @@ module _ {M : Type 1} (𝓤 : URA M) (H : Heap 𝓤) (A : Atoms 𝓤) (W : Given
   abbrev to-append : ℕ → ℕ → GName → Append 𝓤 H A at-mem run .Ghost
   to-append α b δ = (((α ∷ [], tt), (fullShare, tt), tt, passed b δ, (vptr b 0 ∷ [], others-at head closing)), tt)
 
-  goes-append : (α b : ℕ) (δ : GName) → ent 𝓤 (sep 𝓤 (A .lft (α ∷ []) fullShare) (sem 𝓤 H A (MutRef (named 0) (α ∷ []) TailT.the-row .own (lent b δ) (vptr b 0 ∷ [])))) (Append 𝓤 H A at-mem run .pre (to-append α b δ))
+  goes-append : (α b : ℕ) (δ : GName)
+      → ent 𝓤 (sep 𝓤 (A .lft (α ∷ []) fullShare) (sem 𝓤 H A (MutRef (named 0) (α ∷ []) TailT.the-row .own (lent b δ) (vptr b 0 ∷ [])))) (Append 𝓤 H A at-mem run .pre (to-append α b δ))
   goes-append α b δ =
       qed W (‵ (flft (α ∷ []) fullShare) ∷ ‵ (MutRef (named 0) (α ∷ []) TailT.the-row .own (lent b δ) (vptr b 0 ∷ [])) ∷ []) ∵
       use0 W (‵ (owns others (head, (closing, tt)) (others-at head closing))) (others-owned 𝓤 H A head closing head-is closing-is) $ move ! (2 ∷ 0 ∷ []) $ fjoin ! $
@@ -121,10 +123,12 @@ module _ {M : Type 1} (𝓤 : URA M) (H : Heap 𝓤) (A : Atoms 𝓤) (W : Given
   abbrev both : Answer → Tail → Grown
   both answer last = record { answer = answer; tail = last }
 
-  both-is : (answer : Answer) (last : Tail) → Is AnswerT.the-row answer (answers .val answer ∷ []) → Is TailT.the-row last (tails .val last ∷ []) → Is GrownT.the-row (both answer last) (growns .val (both answer last) ∷ [])
+  both-is : (answer : Answer) (last : Tail) → Is AnswerT.the-row answer (answers .val answer ∷ [])
+      → Is TailT.the-row last (tails .val last ∷ []) → Is GrownT.the-row (both answer last) (growns .val (both answer last) ∷ [])
   both-is answer last answer-is last-is = struct-laws.owes GrownT.the-type GrownT′.the-laws (both answer last) (answer-is, (last-is, tt))
 
-  exits : (answer : Answer) (last : Tail) → Said answer last → Is GrownT.the-row (both answer last) (growns .val (both answer last) ∷ []) → ent 𝓤 (emp 𝓤) (Post (growns .val (both answer last)))
+  exits : (answer : Answer) (last : Tail) → Said answer last → Is GrownT.the-row (both answer last) (growns .val (both answer last) ∷ [])
+      → ent 𝓤 (emp 𝓤) (Post (growns .val (both answer last)))
   exits answer last e is =
       qed W [] ∵ suffices ! _ (ends-at 𝓤 H A append-to.ended stayed (append-to.clauses 𝓤 H A at-mem run) W ((tt, tt, tt, x, all-at tail head closing), tt) (growns .val (both answer last)) (both answer last) (tt, (tt, (tt, tt))) (tt, (tt, (tt, tt)))) $
       says ! (λ i. both (e .0 i) (e .1 i)) $ owned ! GrownT.the-row (Is GrownT.the-row) (growns .makes 𝓤 H A) (both answer last) _ is $
@@ -164,7 +168,8 @@ module _ {M : Type 1} (𝓤 : URA M) (H : Heap 𝓤) (A : Atoms 𝓤) (W : Given
         keep ! [] $ by ! (exits r (ws .0) e (both-is r (ws .0) answer-is last-is))))))))))))))))))
 
 module _ {M : Type 1} (𝓤 : URA M) (H : Heap 𝓤) (A : Atoms 𝓤) (W : Given 𝓤 H A) (at-mem : Memory → SProp 𝓤) (run : Routine → Fun 𝓤) where
-  append-to-walks : (C : Calls 𝓤 H) (Λ : Loops 𝓤 H) → FmC 𝓤 H (W .laws) C → Triple 𝓤 (C #ring·append) (Append 𝓤 H A at-mem run) → Walks 𝓤 H A append-to.ended stayed (WpFn 𝓤 H C Λ code.function) (append-to.clauses 𝓤 H A at-mem run)
+  append-to-walks : (C : Calls 𝓤 H) (Λ : Loops 𝓤 H) → FmC 𝓤 H (W .laws) C → Triple 𝓤 (C #ring·append) (Append 𝓤 H A at-mem run)
+      → Walks 𝓤 H A append-to.ended stayed (WpFn 𝓤 H C Λ code.function) (append-to.clauses 𝓤 H A at-mem run)
   append-to-walks C Λ fm known = walked 𝓤 H A append-to.ended stayed (append-to.clauses 𝓤 H A at-mem run) (WpFn 𝓤 H C Λ code.function)
       (λ κs. ((λ t. tails .val t ∷ []), ((λ l. lsns .val l ∷ []), ((λ c. releasings .val c ∷ []), tt)))) (λ κs. (tails .tells, (lsns .tells, (releasings .tells, tt))))
       (λ κs qs bounds a _ are. via 𝓤 _ (fst∗ 𝓤 _ (emp 𝓤)) (walk 𝓤 H A W at-mem run (a .0) (a .1 .0) (a .1 .1 .0) (are .0) (are .1 .0) (are .1 .1 .0) C Λ fm known))
@@ -172,7 +177,8 @@ module _ {M : Type 1} (𝓤 : URA M) (H : Heap 𝓤) (A : Atoms 𝓤) (W : Given
   all-go : AllGo 𝓤 H A W 0 (append-to.signature .params) (append-to.ended .kept) stayed
   all-go = (goes-none 𝓤 H A W 0 (λ _. TailT.the-row) yes (λ κs x f. refl), (goes-none 𝓤 H A W 0 (λ _. LsnT.the-row) yes (λ κs x f. refl), (goes-none 𝓤 H A W 0 (λ _. ReleasingT.the-row) yes (λ κs x f. refl), tt)))
 
-append-to-meets : {M : Type 1} (𝓤 : URA M) (H : Heap 𝓤) (A : Atoms 𝓤) → Given 𝓤 H A → (at-mem : Memory → SProp 𝓤) (run : Routine → Fun 𝓤) (𝓣 : Tables 𝓤 H) → Triple 𝓤 (𝓣 .C #ring·append) (Append 𝓤 H A at-mem run)
+append-to-meets : {M : Type 1} (𝓤 : URA M) (H : Heap 𝓤) (A : Atoms 𝓤) → Given 𝓤 H A
+    → (at-mem : Memory → SProp 𝓤) (run : Routine → Fun 𝓤) (𝓣 : Tables 𝓤 H) → Triple 𝓤 (𝓣 .C #ring·append) (Append 𝓤 H A at-mem run)
     → Meets 𝓤 H A append-to.signature (WpFn 𝓤 H (𝓣 .C) (𝓣 .Λ) code.function) (append-to.spec 𝓤 H A at-mem run)
 append-to-meets 𝓤 H A W at-mem run 𝓣 known =
     walk-meets 𝓤 H A append-to.ended stayed W (all-go 𝓤 H A W at-mem run) (append-to.clauses 𝓤 H A at-mem run) (WpFn 𝓤 H (𝓣 .C) (𝓣 .Λ) code.function) (WpFn-mono 𝓤 H (W .laws) 𝓣 code.function)

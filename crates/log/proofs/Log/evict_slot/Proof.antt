@@ -5,44 +5,41 @@ use native.Mathlib.Omega.{arith}
 use borrow.Author.Needs.{needs}
 use Rattle.answer.specs.Refusals.{unless}
 use Rattle.log.specs.Entries.{isLiveSlot, persistSlot, evictSlotTests, evictSlotOf, evictedOf}
-use Rattle.log.proofs.Slots.{slot-of-run-low}
+use Rattle.ring.proofs.Slots.{slot-of-run-low}
 use Rattle.log.proofs.Log.evict_slot.Statement.{statement}
 use Rattle.log.proofs.Log.evict_slot.Tie as tie
 
 found-live : (c : tie.After-has-slot)
     → isLiveSlot (c .before .before .before .before .args .t1) (c .before .before .before .before .args .slot) ≡ c .has-slot .result
 unfolding isLiveSlot
-found-live c = sym (c .has-slot .ensures ∙ rw (c .before .live-entries .ensures))
+found-live c = sym (c .has-slot .ensures ∙ rw (c .before .live-count .ensures))
 
 low : (c : tie.Then1) → c .before .before .before .before .before .args .slot < 64
 low c = let a = c .before .before .before .before .before .args in slot-of-run-low (a .t1 .head .0) (a .slot) _ (sym (c .before .has-slot .ensures) ∙ c .if1 .taken)
 
-live-entries-requires : tie.Need-live-entries-requires
-live-entries-requires c κs = search needs
+live-count-requires : tie.Need-live-count-requires
+live-count-requires c κs = search needs
 
 has-slot-requires : tie.Need-has-slot-requires
 has-slot-requires c κs = search needs
 
-mul-held : tie.Need-mul-held
-mul-held c = omega (arith, low c)
+mul-entry : tie.Need-mul-entry
+mul-entry c = omega (arith, low c)
 
-element-copy-out-held : tie.Need-element-copy-out-held
-element-copy-out-held c = low c
+element-copy-out-entry : tie.Need-element-copy-out-entry
+element-copy-out-entry c = low c
 
-persisted-requires : tie.Need-persisted-requires
-persisted-requires c κs = search needs
+mul-entry-2 : tie.Need-mul-entry-2
+mul-entry-2 c = omega (arith, low (c .before))
 
-mul-t11 : tie.Need-mul-t11
-mul-t11 c = omega (arith, low (c .before .before))
-
-element-set-from-self : tie.Need-element-set-from-self
-element-set-from-self c = low (c .before .before)
+element-set-from-entry : tie.Need-element-set-from-entry
+element-set-from-entry c = low (c .before)
 
 returns : tie.Need-returns
 unfolding evictedOf evictSlotTests evictSlotOf persistSlot unless
 returns c =
-    let t = c .before .before in
-    rw (found-live (t .before), t .if1 .taken, c .persisted .ensures)
+    let t = c .before in
+    rw (found-live (t .before), t .if1 .taken)
 
 returns-2 : tie.Need-returns-2
 unfolding evictedOf evictSlotTests unless
@@ -52,12 +49,11 @@ pub evict-slot-spec : {M : Type 1} → statement M
 evict-slot-spec =
     tie.close
     (tie.spec
-    live-entries-requires
+    live-count-requires
     has-slot-requires
-    mul-held
-    element-copy-out-held
-    persisted-requires
-    mul-t11
-    element-set-from-self
+    mul-entry
+    element-copy-out-entry
+    mul-entry-2
+    element-set-from-entry
     returns
     returns-2)

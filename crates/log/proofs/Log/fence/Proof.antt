@@ -1,15 +1,20 @@
 -- `log::Log::fence` meets its contract. The loop's invariant: the entries of `done` LSNs after the last durable one are persisted.
 use Prim.Native.Nat.{_+_, _-_, _≤_}
-use mathlib.Core.Path.{_≡_, refl, _∙_, ap}
+use mathlib.Core.Path.{_≡_, refl, ap}
+use mathlib.Core.List.{List}
 use native.Mathlib.Numerals.{add-one}
 use native.Mathlib.Omega.{arith}
 use borrow.Author.Needs.{needs}
 use Rattle.ring.specs.Ring.{slotOf}
-use Rattle.ring.specs.declared.Lsn.{Lsn}
 use Rattle.log.specs.Entries.{withTail, persistSlot, persistFrom, fenceLogOf}
-use Rattle.log.proofs.LogInvariant.{withPersisted}
+use Rattle.log.specs.declared.Entry.{Entry}
+use Rattle.log.specs.declared.Log.{Log}
 use Rattle.log.proofs.Log.fence.Statement.{statement}
 use Rattle.log.proofs.Log.fence.Tie as tie
+
+-- the log with other persisted slots
+abbrev withPersisted : Log → List Entry → Log
+withPersisted log slots = record { cached = log .cached; persisted = slots; head = log .head; tail = log .tail }
 
 abbrev Inv-loop : tie.InvT-loop
 Inv-loop self₀ before durable count done₀ self done =
@@ -17,12 +22,6 @@ Inv-loop self₀ before durable count done₀ self done =
 
 abbrev μ-loop : tie.MeasureT-loop
 μ-loop self₀ before durable count done₀ self done = count - done
-
-durable-lsn-requires : tie.Need-durable-lsn-requires Inv-loop μ-loop
-durable-lsn-requires c κs = search needs
-
-flushed-lsn-requires : tie.Need-flushed-lsn-requires Inv-loop μ-loop
-flushed-lsn-requires c κs = search needs
 
 since-requires : tie.Need-since-requires Inv-loop μ-loop
 since-requires c κs = search needs
@@ -40,20 +39,17 @@ add-slot-after c = search needs
 slot-after-requires : tie.Need-slot-after-requires Inv-loop μ-loop
 slot-after-requires c κs = search needs
 
-mul-held : tie.Need-mul-held Inv-loop μ-loop
-mul-held c = search needs
+mul-entry : tie.Need-mul-entry Inv-loop μ-loop
+mul-entry c = search needs
 
-element-copy-out-held : tie.Need-element-copy-out-held Inv-loop μ-loop
-element-copy-out-held c = search needs
+element-copy-out-entry : tie.Need-element-copy-out-entry Inv-loop μ-loop
+element-copy-out-entry c = search needs
 
-persisted-requires : tie.Need-persisted-requires Inv-loop μ-loop
-persisted-requires c κs = search needs
+mul-entry-2 : tie.Need-mul-entry-2 Inv-loop μ-loop
+mul-entry-2 c = search needs
 
-mul-t14 : tie.Need-mul-t14 Inv-loop μ-loop
-mul-t14 c = search needs
-
-element-set-from-self : tie.Need-element-set-from-self Inv-loop μ-loop
-element-set-from-self c = search needs
+element-set-from-entry : tie.Need-element-set-from-entry Inv-loop μ-loop
+element-set-from-entry c = search needs
 
 add-done : tie.Need-add-done Inv-loop μ-loop
 add-done c = search needs
@@ -64,11 +60,11 @@ loop-less c = search needs
 loop-again : tie.Need-loop-again Inv-loop μ-loop
 unfolding persistFrom persistSlot
 loop-again c =
-    let l = c .before .before .before .before in
-    let durable = l .before .before .before .durable-lsn .result in
-    let slot : c .before .before .slot-after .result ≡ slotOf (durable .0 + 1 + l .loop .done) =
-    omega (arith, c .before .before .slot-after .ensures) in
-    (search needs, rw (c .persisted .ensures, slot, l .loop .inv .1, add-one (l .loop .done)))
+    let l = c .before .before .before in
+    let durable = l .before .before .before .before .before .args .t1 .tail .durable in
+    let slot : c .before .slot-after .result ≡ slotOf (durable .0 + 1 + l .loop .done) =
+    omega (arith, c .before .slot-after .ensures) in
+    (search needs, rw (slot, l .loop .inv .1, add-one (l .loop .done)))
 
 fenced-requires : tie.Need-fenced-requires Inv-loop μ-loop
 fenced-requires c κs = search needs
@@ -77,13 +73,10 @@ returns : tie.Need-returns Inv-loop μ-loop
 unfolding fenceLogOf
 returns c =
     let l = c .before .before in
-    let f = l .before .before in
-    let a = f .before .before .before .args .t1 in
-    let durable = f .before .durable-lsn .ensures in
-    let all : l .loop .done ≡ a .tail .flushed .0 - a .tail .durable .0 =
-    omega (arith, ap (λ (lsn : Lsn). lsn .0) (f .flushed-lsn .ensures), ap (λ (lsn : Lsn). lsn .0) durable) in
+    let a = l .before .before .before .before .before .args .t1 in
+    let all : l .loop .done ≡ a .tail .flushed .0 - a .tail .durable .0 = omega arith in
     let persisted = persistFrom (a .cached) (a .persisted) (a .tail .durable .0 + 1) (a .tail .flushed .0 - a .tail .durable .0) in
-    rw (l .loop .inv .1, all, durable) (ap (withTail (withPersisted a persisted)) (c .fenced .ensures))
+    rw (l .loop .inv .1, all) (ap (withTail (withPersisted a persisted)) (c .fenced .ensures))
 
 pub fence-spec : {M : Type 1} → statement M
 fence-spec =
@@ -91,18 +84,15 @@ fence-spec =
     (tie.spec
     Inv-loop
     μ-loop
-    durable-lsn-requires
-    flushed-lsn-requires
     since-requires
     cast-count
     loop-holds
     add-slot-after
     slot-after-requires
-    mul-held
-    element-copy-out-held
-    persisted-requires
-    mul-t14
-    element-set-from-self
+    mul-entry
+    element-copy-out-entry
+    mul-entry-2
+    element-set-from-entry
     add-done
     loop-less
     loop-again

@@ -1,15 +1,13 @@
--- `log::Log::new` meets its contract: the thread's record changes as its own method says.
+-- `log::Log::new` meets its contract: field by field.
 use borrow.Author.Needs.{needs}
+use Rattle.ring.specs.Ring.{freshTail}
 use Rattle.log.specs.Entries.{freshLog}
 use Rattle.log.proofs.Log.new.Statement.{statement}
 use Rattle.log.proofs.Log.new.Tie as tie
 
-fresh-requires : tie.Need-fresh-requires
-fresh-requires c κs = search needs
-
 returns : tie.Need-returns
-unfolding freshLog
-returns c = rw (c .fresh .ensures)
+unfolding freshLog freshTail
+returns c = search needs
 
 pub new-spec : {M : Type 1} → statement M
-new-spec = tie.close (tie.spec fresh-requires returns)
+new-spec = tie.close (tie.spec returns)

@@ -1,12 +1,12 @@
 -- `machine::Machine::cut` meets its contract.
 use borrow.Author.Needs.{needs}
-use Prim.Native.Nat.{_-_, _≤_}
+use Prim.Native.Nat.{_-_}
 use native.Mathlib.Omega.{arith}
-use mathlib.Core.Path.{_≡_, refl, sym, ap, _∙_}
+use mathlib.Core.Path.{_≡_, sym, _∙_}
 use lib.ListN.{length}
 use borrow.Author.Tests.{eq-eqb, ne-eqb}
 use Rattle.answer.specs.Refusals.{unless}
-use Rattle.stretch.specs.Stretch.{imageWords}
+use Rattle.log.specs.Stretch.{imageWords}
 use Rattle.machine.specs.Image.{cutOf}
 use Rattle.machine.proofs.ImageWritten.{WrittenTo, written-cells, written-more, written-all}
 use Rattle.machine.proofs.Machine.cut.Statement.{statement}

@@ -1,0 +1,5 @@
+-- Laws of clocks, of what stands past the last cell, of steps that make an entry, and of LOG's tests.
+pub mod ClockLaws
+pub mod AccessLaws
+pub mod EntryLaws
+pub mod LogLaws

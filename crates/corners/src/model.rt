@@ -1,0 +1,71 @@
+// A second writing of document 01, to be run beside the machine. It keeps document 01's own words (seen, kept, firm, mark, rank, closing),
+// so that it reads against that page alone, and names nothing of the machine. It keeps no state: every answer is worked out anew from the
+// start cells and the history of accepted steps, with whole logs, no clock and no counter.
+//
+// `corners` compares answers, numbers given, whole images and recovered cells with the machine's. Every function here is proved to be safe
+// and to end; nothing else is promised of it.
+mod cells;
+mod history;
+mod image;
+mod logs;
+mod order;
+mod recovering;
+mod steps;
+
+// A step's answer, and the number beside it.
+pub(crate) struct Verdict {
+    pub(crate) answer: u64,
+    pub(crate) number: u64,
+}
+
+// What document 01 has a step answer after a history: the accepted steps in their order, four words each (kind, thread, place, value), to
+// which the caller adds this one where the answer is 0. The number beside is 0 unless the step is accepted and its kind gives one.
+pub(crate) fn judge(
+    start: &[u64],
+    past: &[u64],
+    kind: u64,
+    thread: u64,
+    place: u64,
+    value: u64,
+) -> Verdict {
+    let answer = steps::refusal(past, kind, thread, place, value);
+    if answer != 0 {
+        return Verdict { answer, number: 0 };
+    }
+    Verdict {
+        answer,
+        number: steps::given(start, past, kind, thread, place),
+    }
+}
+
+// Writes the image of a cut after a history; 21, and the buffer as it was, where it is not of 1,156 words.
+pub(crate) fn cut(start: &[u64], past: &[u64], image: &mut [u64]) -> u64 {
+    if image.len() == 1156 {
+        image::write(start, past, image);
+        return 0;
+    }
+    21
+}
+
+// Recovers an image's cells. 21 where a buffer has a wrong length, else 0, 22, 23 or 24; the buffer stays as it was unless the answer
+// is 0.
+pub(crate) fn recover(image: &[u64], cells: &mut [u64]) -> u64 {
+    if image.len() != 1156 {
+        return 21;
+    }
+    if cells.len() != 128 {
+        return 21;
+    }
+    if recovering::has_bad_head(image) {
+        return 22;
+    }
+    if recovering::has_bad_entry(image) {
+        return 23;
+    }
+    let mut found = recovering::kept_cells(image);
+    if recovering::is_tangled(image, &mut found) {
+        return 24;
+    }
+    recovering::copy(&found, cells);
+    0
+}

@@ -1,0 +1,2 @@
+-- Laws of the input's tests.
+pub mod Inputs

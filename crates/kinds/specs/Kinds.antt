@@ -1,0 +1,95 @@
+-- The twelve kinds of step by document 01's numbers, which fields each uses, and the refusals because of the input.
+use Prim.Native.Nat.{ℕ}
+use mathlib.Core.Bool.{Bool, false, cond, not, _||_}
+use mathlib.Core.List.{List, [], _∷_}
+use mathlib.Core.Option.{Option, none, some}
+use lib.Dec.{eqb, ltb}
+use Rattle.answer.specs.Refusals.{Test, _⇒_, firstRefusal}
+use Rattle.answer.specs.declared.Answer.{Answer}
+use Rattle.answer.specs.declared.Answer.the-variants.{NoSuchKind, NoSuchThread, NoSuchPlace, UnusedField}
+use Rattle.cache.specs.Cache.{cellCount, lineCount}
+use Rattle.ring.specs.Ring.{slotCount}
+
+-- "4 threads (0 to 3), 8 locks (0 to 7)"
+abbrev pub threadCount : ℕ
+threadCount = 4
+
+abbrev pub lockCount : ℕ
+lockCount = 8
+
+pub data Kind : Type 0 where
+  LOAD LOG STORE ACQUIRE LOGREL RELEASE FLUSH FLUSHLOG FENCE PRUNE EVICT EVICTLOG : Kind
+
+-- the kind of a number: none is "1: kind not 1 to 12"
+unfoldable pub kindOf : ℕ → Option Kind
+kindOf number =
+    cond (eqb number 1) (some LOAD)
+    (cond (eqb number 2) (some LOG)
+    (cond (eqb number 3) (some STORE)
+    (cond (eqb number 4) (some ACQUIRE)
+    (cond (eqb number 5) (some LOGREL)
+    (cond (eqb number 6) (some RELEASE)
+    (cond (eqb number 7) (some FLUSH)
+    (cond (eqb number 8) (some FLUSHLOG)
+    (cond (eqb number 9) (some FENCE)
+    (cond (eqb number 10) (some PRUNE)
+    (cond (eqb number 11) (some EVICT)
+    (cond (eqb number 12) (some EVICTLOG) none)))))))))))
+
+-- how a kind uses a field: as a number below a bound, as any number, or not at all
+pub data Field : Type 0 where
+  below : ℕ → Field
+  free : Field
+  unused : Field
+
+-- the fields of a kind
+pub record Fields : Type 0 where
+  pub thread : Field
+  pub place : Field
+  pub value : Field
+
+abbrev pub fields : Field → Field → Field → Fields
+fields thread place value = record { thread = thread; place = place; value = value }
+
+-- "Unused fields are 0: value in all but STORE, place in 8, 9 and 10, thread in 11."
+abbrev pub fieldsOf : Kind → Fields
+fieldsOf LOAD = fields (below threadCount) (below cellCount) unused
+fieldsOf LOG = fields (below threadCount) (below cellCount) unused
+fieldsOf STORE = fields (below threadCount) (below cellCount) free
+fieldsOf ACQUIRE = fields (below threadCount) (below lockCount) unused
+fieldsOf LOGREL = fields (below threadCount) (below lockCount) unused
+fieldsOf RELEASE = fields (below threadCount) (below lockCount) unused
+fieldsOf FLUSH = fields (below threadCount) (below lineCount) unused
+fieldsOf FLUSHLOG = fields (below threadCount) unused unused
+fieldsOf FENCE = fields (below threadCount) unused unused
+fieldsOf PRUNE = fields (below threadCount) unused unused
+fieldsOf EVICT = fields unused (below lineCount) unused
+fieldsOf EVICTLOG = fields (below threadCount) (below slotCount) unused
+
+-- the field is used and out of range
+abbrev pub isOver : Field → ℕ → Bool
+isOver (below bound) word = not (ltb word bound)
+isOver free word = false
+isOver unused word = false
+
+-- the field is unused and not 0
+abbrev pub isLeftOver : Field → ℕ → Bool
+isLeftOver (below bound) word = false
+isLeftOver free word = false
+isLeftOver unused word = not (eqb word 0)
+
+-- "2: thread over 3. 3: place over 127 (LOAD, LOG, STORE), 7 (locks), 15 (lines) or 63 (EVICTLOG). 4: an unused field not 0."
+abbrev pub fieldTests : ℕ → Bool → Bool → List Test
+fieldTests thread over left = (not (ltb thread threadCount) ⇒ NoSuchThread) ∷ (over ⇒ NoSuchPlace) ∷ (left ⇒ UnusedField) ∷ []
+
+unfoldable pub inputTests : Kind → ℕ → ℕ → ℕ → List Test
+inputTests kind thread place value =
+    fieldTests
+    thread
+    (isOver (fieldsOf kind .place) place)
+    (isLeftOver (fieldsOf kind .thread) thread || isLeftOver (fieldsOf kind .place) place || isLeftOver (fieldsOf kind .value) value)
+
+-- the first refusal because of the input, or acceptance
+abbrev pub inputAnswer : Option Kind → ℕ → ℕ → ℕ → Answer
+inputAnswer none thread place value = NoSuchKind
+inputAnswer (some kind) thread place value = firstRefusal (inputTests kind thread place value)

@@ -1,0 +1,3 @@
+-- Laws of locks and of the four steps' tests.
+pub mod LockLaws
+pub mod AskedLaws

@@ -1,0 +1,53 @@
+-- `locks::release_answer` meets its contract.
+use Prim.Native.Nat.{_-_}
+use mathlib.Core.Path.{_≡_, sym, _∙_}
+use mathlib.Core.Bool.{true}
+use borrow.Author.Tests.{not-true, not-false}
+use Rattle.answer.specs.Refusals.{unless, firstRefusal}
+use Rattle.ring.specs.Ring.{isReleasingLock}
+use Rattle.undo.specs.Regions.{isUndurableUpTo}
+use Rattle.locks.specs.LockSteps.{releaseTests}
+use borrow.Author.Needs.{needs}
+use Rattle.locks.proofs.release_answer.Statement.{statement}
+use Rattle.locks.proofs.release_answer.Tie as tie
+
+-- what the two tests found
+releases : (c : tie.Else1) → let a = c .before .before .before .args in isReleasingLock (a .log .tail .releasing) (a .place) ≡ true
+releases c = sym (c .before .is-releasing-lock .ensures) ∙ not-false _ (c .if1 .left)
+
+undurable : (c : tie.After-is-undurable-before)
+    → let log = c .before .before .before .before .before .before .args .log in
+    isUndurableUpTo log (log .tail .next .0 - 1) ≡ c .is-undurable-before .result
+undurable c = sym (c .is-undurable-before .ensures)
+
+is-releasing-lock-requires : tie.Need-is-releasing-lock-requires
+is-releasing-lock-requires c κs = search needs
+
+returns : tie.Need-returns
+unfolding firstRefusal unless releaseTests
+returns c = rw (sym (c .before .is-releasing-lock .ensures) ∙ not-true _ (c .if1 .taken))
+
+cast-is-undurable-before : tie.Need-cast-is-undurable-before
+cast-is-undurable-before c = search needs
+
+is-undurable-before-requires : tie.Need-is-undurable-before-requires
+is-undurable-before-requires c κs = search needs
+
+returns-2 : tie.Need-returns-2
+unfolding firstRefusal unless releaseTests
+returns-2 c = rw (releases (c .before .before .before .before), undurable (c .before) ∙ c .if2 .taken)
+
+returns-3 : tie.Need-returns-3
+unfolding firstRefusal unless releaseTests
+returns-3 c = rw (releases (c .before .before .before .before), undurable (c .before) ∙ c .if2 .left)
+
+pub release-answer-spec : {M : Type 1} → statement M
+release-answer-spec =
+    tie.close
+    (tie.spec
+    is-releasing-lock-requires
+    returns
+    cast-is-undurable-before
+    is-undurable-before-requires
+    returns-2
+    returns-3)

@@ -1,2 +1,0 @@
--- What the model promises, and what it leaves open.
-pub mod Promises

@@ -1,0 +1,2 @@
+-- What a whole run over lent buffers leaves.
+pub mod Replay
