@@ -9,9 +9,9 @@ use lib.Dec.{ltb, leb, leb·zero}
 use lib.ListN.{length, getD, List·getD-eq-default}
 use lib.Seq.{set-out}
 use borrow.Author.Tests.{lt-ltb, le-ltb, le-leb, lt-leb}
+use Rattle.sizes.specs.Sizes.{threadCount}
 use Rattle.answer.specs.Lists.{someBelow}
 use Rattle.answer.proofs.BelowLaws.{none-someBelow, found-someBelow}
-use Rattle.kinds.specs.Kinds.{threadCount}
 use Rattle.accesses.specs.Clocks.{clockAt, accessPlace, isKnown, hasUnknown, loadedOf, loggedCellOf}
 use Rattle.accesses.specs.declared.Accesses.{Accesses}
 use Rattle.accesses.specs.declared.Clock.{Clock}

@@ -8,7 +8,7 @@ use native.Mathlib.Omega.{arith}
 use lib.Dec.{eqb}
 use lib.ListN.{getD}
 use borrow.Author.Tests.{lt-ltb, ne-eqb}
-use Rattle.kinds.specs.Kinds.{threadCount}
+use Rattle.sizes.specs.Sizes.{threadCount}
 use Rattle.accesses.specs.Clocks.{noClock, startClocks, clockAt, joinOf, raisedOf, largest, oneMore, raiseOf}
 use Rattle.accesses.specs.declared.Clock.{Clock}
 

@@ -5,8 +5,8 @@ use mathlib.Core.Bool.{Bool, cond, not}
 use mathlib.Core.List.{List, [], _∷_}
 use lib.ListN.{getD, set}
 use lib.Dec.{eqb, ltb, leb}
+use Rattle.sizes.specs.Sizes.{threadCount}
 use Rattle.answer.specs.Lists.{someBelow}
-use Rattle.kinds.specs.Kinds.{threadCount}
 use Rattle.accesses.specs.declared.Accesses.{Accesses}
 use Rattle.accesses.specs.declared.Clock.{Clock}
 

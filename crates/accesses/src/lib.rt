@@ -10,18 +10,14 @@ ghost use Rattle.accesses.specs.Logs.{logTestsOn, logOn};
 ghost use Rattle.answer.specs.Refusals.{firstRefusal};
 use answer::Answer;
 use log::Log;
+use sizes::CELLS;
+use sizes::THREADS;
 use undo::Event;
 use undo::enter;
 use undo::is_found;
 
-// The threads, each of which has a number in every clock and a last access of every cell.
-const THREADS: usize = 4;
-
-// The cells.
-const CELLS: usize = 128;
-
 // The last accesses: one for each cell and thread.
-const STAMPS: usize = 512;
+pub const STAMPS: usize = CELLS * THREADS;
 
 // The largest number that a clock holds.
 const LARGEST: u32 = 4294967295;

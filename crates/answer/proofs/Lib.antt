@@ -3,3 +3,4 @@ pub mod RefusalLaws
 pub mod BelowLaws
 pub mod ListLaws
 pub mod ListCases
+pub mod Beside

@@ -1,6 +1,6 @@
 -- What follows for an outcome of tests in order: it is a refusal by one of them, or all of them failed and the effect happened.
 use mathlib.Core.Path.{_≡_, refl, sym, ap, _∙_}
-use mathlib.Core.Bool.{Bool, true, false, cond, true≢false}
+use mathlib.Core.Bool.{true, false, cond, true≢false}
 use mathlib.Core.List.{List, [], _∷_, _++_}
 use lib.Dec.{eqb}
 use Rattle.answer.specs.Answer.{numberOf, isAccepted}

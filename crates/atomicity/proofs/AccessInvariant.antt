@@ -8,9 +8,9 @@ use native.Mathlib.Decide.{ℕ-discrete}
 use native.Mathlib.Omega.{arith}
 use lib.ListN.{length, getD, set, replicate, getD-replicate}
 use lib.Seq.{getD-set-same, getD-set-other}
+use Rattle.sizes.specs.Sizes.{threadCount}
 use Rattle.cache.specs.Cache.{cellCount}
 use Rattle.accesses.specs.Clocks.{accessPlace, loadedOf, loggedCellOf}
-use Rattle.kinds.specs.Kinds.{threadCount}
 use Rattle.accesses.specs.declared.Accesses.{Accesses}
 use Rattle.atomicity.specs.History.{Fed, stepAt}
 use Rattle.atomicity.specs.HappensBefore.{HappensBefore}

@@ -66,7 +66,8 @@ first-later {test} {region} {regions} {place} fails first =
       before = later test region regions place fails (first .before);
     }
 
-first-rest : {test : Region → Bool} {region : Region} {regions : List Region} {place : ℕ} → First test (region ∷ regions) (suc place) → First test regions place
+-- one region less in front
+pub first-rest : {test : Region → Bool} {region : Region} {regions : List Region} {place : ℕ} → First test (region ∷ regions) (suc place) → First test regions place
 first-rest first = record {
   inRange = le-of-suc-le-suc (first .inRange);
   holds = first .holds;

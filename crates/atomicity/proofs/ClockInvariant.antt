@@ -7,8 +7,8 @@ use mathlib.Core.Logic.{by-cases, _≢_}
 use native.Mathlib.Decide.{ℕ-discrete}
 use native.Mathlib.Omega.{arith}
 use lib.ListN.{length, getD, set, replicate, getD-replicate}
+use Rattle.sizes.specs.Sizes.{threadCount, lockCount}
 use Rattle.accesses.specs.Clocks.{clockAt, joinOf, raisedOf, noClock, startClocks}
-use Rattle.kinds.specs.Kinds.{threadCount, lockCount}
 use Rattle.accesses.specs.declared.Clock.{Clock}
 use Rattle.atomicity.specs.History.{Fed, stepAt}
 use Rattle.atomicity.specs.HappensBefore.{HappensBefore}

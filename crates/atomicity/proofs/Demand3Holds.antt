@@ -1,17 +1,19 @@
 -- Demand 3 holds, and every lawful order of undoing ends in the same cells.
--- The parts: `run-whole` (all concerns, for every list of steps from any beginning), `undoable` (what the image of a cut has), `recovers` and `any-order` (the
--- undoing lemma), and `before-leads` with `leads-pruned` (committed regions are closed under happens-before).
+-- The parts: `run-whole` (all concerns, for every list of steps from any beginning), `undoable` (what the image of a cut has), `recovers`
+-- and `any-order` (the undoing lemma), and `before-leads` with `leads-pruned` (committed regions are closed under happens-before).
 use Prim.Native.Nat.{ℕ}
 use mathlib.Core.Path.{_≡_, sym, ap, _∙_}
 use mathlib.Core.Bool.{true}
 use mathlib.Core.List.{List}
 use lib.ListN.{length, take}
 use lib.Dec.{ltb}
-use borrow.Author.Tests.{ltb-true, lt-ltb}
+use borrow.Author.Tests.{eq-eqb, ltb-true, lt-ltb}
+use Rattle.answer.specs.Refusals.{unless, Outcome}
 use Rattle.answer.specs.declared.Answer.the-variants.{Accepted}
-use Rattle.cache.specs.Cache.{cellCount, cacheOf}
+use Rattle.cache.specs.Cache.{cellCount}
 use Rattle.log.specs.declared.Log.{Log}
-use Rattle.machine.specs.Image.{imageOf}
+use Rattle.log.specs.Stretch.{imageWords}
+use Rattle.machine.specs.Image.{imageOf, cutOf}
 use Rattle.machine.specs.Runs.{Step, after}
 use Rattle.machine.specs.declared.Machine.{Machine}
 use Rattle.machine.proofs.Beginnings.{machineWith, AllIdle}
@@ -28,9 +30,9 @@ use Rattle.atomicity.proofs.Leads.{leads-pruned}
 use Rattle.atomicity.proofs.Places.{lastOf, before-leads}
 use Rattle.atomicity.proofs.Recovered.{reads, heads-good, entries-good, final, final-length, undoable}
 use Rattle.atomicity.proofs.Undoing.{any-order, recovers}
-use Rattle.atomicity.proofs.Whole.{Whole, bookOf}
-use Rattle.atomicity.proofs.WholeRuns.{begin-whole, run-whole, start-length, after-whole}
-use Rattle.atomicity.proofs.World.{Beginning, entriesOf}
+use Rattle.atomicity.proofs.RunInvariant.{Whole, bookOf}
+use Rattle.atomicity.proofs.RunInvariantHolds.{begin-whole, run-whole, start-length, after-whole}
+use Rattle.atomicity.proofs.MachineInvariant.{Beginning, entriesOf}
 
 -- with each committed region, every region that happens before it is committed
 closed-regions : {start : Beginning} {machine : Machine} {history : List Fed} → Whole start machine history → (earlier later : ℕ)
@@ -43,14 +45,17 @@ closed-regions {start} {machine} {history} whole earlier later before isCommitte
     let leads = before-leads (whole .world .places) (before .happensBefore) in
     let head = entries .head (stepAt history (before .laterStep) .thread) in
     let number = lastOf (entries .before) history (before .laterStep) in
-    let isPruned : ltb number head ≡ true = sym (whole .regions .committed (second .0)) ∙ (ap (isCommittedAt (bookOf start history .regions)) (second .1) ∙ isCommitted) in
+    let isPruned : ltb number head ≡ true =
+    sym (whole .regions .committed (second .0)) ∙
+    (ap (isCommittedAt (bookOf start history .regions)) (second .1) ∙ isCommitted) in
     let pruned = leads-pruned (whole .world .prunes) leads (ltb-true number head isPruned) in
     sym (ap (isCommittedAt (bookOf start history .regions)) (first .1)) ∙ (whole .regions .committed (first .0) ∙ lt-ltb _ _ pruned)
 
 -- where all concerns hold, recovery accepts the image of a cut and finds the reference model's cells
 whole-recovers : {start : Beginning} {machine : Machine} {history : List Fed} → Whole start machine history → Counted machine
     → length (start .cells) ≡ cellCount → (buffer : List ℕ) → length buffer ≡ cellCount
-    → (recoverOf (imageOf machine) buffer .answer ≡ Accepted 0) × (recoverOf (imageOf machine) buffer .buffer ≡ cellsOf (bookOf start history))
+    → (recoverOf (imageOf machine) buffer .answer ≡ Accepted 0)
+    × (recoverOf (imageOf machine) buffer .buffer ≡ cellsOf (bookOf start history))
 whole-recovers {start} {machine} {history} whole counted isLength buffer isBuffer =
     recovers
     (imageOf machine)
@@ -62,11 +67,18 @@ whole-recovers {start} {machine} {history} whole counted isLength buffer isBuffe
     (entries-good whole counted isLength)
     (undoable whole counted isLength)
 
+-- over a lent buffer of 1,156 words the cut writes its image
+pub cut-writes : (machine : Machine) (image : List ℕ) → length image ≡ imageWords
+    → cutOf machine image ≡ record { answer = Accepted 0; buffer = imageOf machine }
+unfolding cutOf unless
+cut-writes machine image isImage = rw (eq-eqb (length image) imageWords isImage)
+
 -- from any beginning every list of steps recovers to the reference model's cells, with the beginning's cells as the start cells
 pub begin-recovers : (cells : List ℕ) (logs : List Log) → length cells ≡ cellCount → AllIdle logs → (steps : List Step) (buffer : List ℕ)
     → length buffer ≡ cellCount
-    → (recoverOf (imageOf (after (machineWith cells logs) steps)) buffer .answer ≡ Accepted 0) × (recoverOf (imageOf (after (machineWith cells logs) steps)) buffer .buffer ≡ cellsOf (fedBook (emptyBook cells) (historyOf (machineWith cells logs) steps)))
-unfolding cacheOf
+    → (recoverOf (imageOf (after (machineWith cells logs) steps)) buffer .answer ≡ Accepted 0)
+    × (recoverOf (imageOf (after (machineWith cells logs) steps)) buffer .buffer
+    ≡ cellsOf (fedBook (emptyBook cells) (historyOf (machineWith cells logs) steps)))
 begin-recovers cells logs isLength all steps buffer isBuffer =
     whole-recovers
     (run-whole (machineWith cells logs) (begin-whole cells logs isLength all) steps)
@@ -75,22 +87,25 @@ begin-recovers cells logs isLength all steps buffer isBuffer =
     buffer
     isBuffer
 
--- and so it does from the start call
-pub cut-recovers : (words : List ℕ) (steps : List Step) (buffer : List ℕ) → length buffer ≡ cellCount → Recovers words steps buffer
-cut-recovers words steps buffer isBuffer =
+-- and so it does from the start call, over any two buffers that 21 lets pass
+pub cut-recovers : (words : List ℕ) (steps : List Step) (image buffer : List ℕ) → length image ≡ imageWords → length buffer ≡ cellCount
+    → Recovers words steps image buffer
+cut-recovers words steps image buffer isImage isBuffer =
     let whole = after-whole words steps in
     let counted = after-counted words steps in
+    let written = cut-writes (machineAfter words steps) image isImage in
     let found = whole-recovers whole counted (start-length words) buffer isBuffer in
     record {
-      accepts = found .0;
-      cells = found .1;
+      cuts = ap (λ (cut : Outcome). cut .answer) written;
+      accepts = ap (λ (cut : Outcome). recoverOf (cut .buffer) buffer .answer) written ∙ found .0;
+      cells = ap (λ (cut : Outcome). recoverOf (cut .buffer) buffer .buffer) written ∙ found .1;
       all128 = final-length whole counted (start-length words);
       closed = closed-regions whole;
     }
 
 -- for every start, every list of steps and every cut
 pub demand-3 : Demand3
-demand-3 words steps cut buffer within isLength = cut-recovers words (take cut steps) buffer isLength
+demand-3 words steps cut image buffer within isImage isBuffer = cut-recovers words (take cut steps) image buffer isImage isBuffer
 
 -- and whatever lawful order the entries are undone in
 pub any-lawful-order : AnyOrder
@@ -98,4 +113,13 @@ any-lawful-order words steps cut end within undoing allTaken =
     let whole = after-whole words (take cut steps) in
     let counted = after-counted words (take cut steps) in
     let start = start-length words in
-    any-order (storedLogs (imageOf (machineAfter words (take cut steps)))) (undoStart (imageOf (machineAfter words (take cut steps))) .left) (undoStart (imageOf (machineAfter words (take cut steps))) .cells) (final whole counted start) (undoable whole counted start) end undoing allTaken
+    let image = imageOf (machineAfter words (take cut steps)) in
+    any-order
+    (storedLogs image)
+    (undoStart image .left)
+    (undoStart image .cells)
+    (final whole counted start)
+    (undoable whole counted start)
+    end
+    undoing
+    allTaken

@@ -3,7 +3,7 @@ use Prim.Native.Nat.{ℕ, _<_}
 use mathlib.Core.Path.{_≡_}
 use mathlib.Core.Bool.{true}
 use mathlib.Core.List.{List}
-use Rattle.kinds.specs.Kinds.{threadCount}
+use Rattle.sizes.specs.Sizes.{threadCount}
 use Rattle.machine.specs.declared.Machine.{Machine}
 use Rattle.machine.proofs.Sizes.{Sized}
 use Rattle.atomicity.specs.History.{Fed, stepAt}

@@ -7,10 +7,11 @@ use mathlib.Core.Option.{Option, some}
 use native.Mathlib.Omega.{arith}
 use lib.Dec.{eqb}
 use borrow.Author.Tests.{ltb-true, eqb-true, not-false}
+use Rattle.sizes.specs.Sizes.{threadCount}
 use Rattle.answer.specs.Answer.{isAccepted}
 use Rattle.answer.proofs.RefusalLaws.{AllFail}
 use Rattle.machine.specs.Effects.{loadEffect, logEffect, storeEffect, acquireEffect, logReleaseEffect, releaseEffect, flushEffect, flushLogEffect, fenceEffect, pruneEffect, evictEffect, evictLogEffect, effect}
-use Rattle.kinds.specs.Kinds.{threadCount, Kind, LOAD, LOG, STORE, ACQUIRE, LOGREL, RELEASE, FLUSH, FLUSHLOG, FENCE, PRUNE, EVICT, EVICTLOG, kindOf, fieldsOf, isOver, inputTests}
+use Rattle.kinds.specs.Kinds.{Kind, LOAD, LOG, STORE, ACQUIRE, LOGREL, RELEASE, FLUSH, FLUSHLOG, FENCE, PRUNE, EVICT, EVICTLOG, kindOf, fieldsOf, isOver, inputTests}
 use Rattle.machine.specs.Refusals.{stateTests}
 use Rattle.machine.specs.Runs.{Step, stepWith, after}
 use Rattle.machine.specs.declared.Machine.{Machine}

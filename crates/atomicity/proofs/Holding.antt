@@ -9,12 +9,12 @@ use native.Mathlib.Omega.{arith}
 use lib.ListN.{length, getD, set, replicate}
 use lib.Seq.{getD-set-same, getD-set-other, set-out}
 use borrow.Author.Tests.{eqb-true}
+use Rattle.sizes.specs.Sizes.{threadCount, lockCount}
 use Rattle.ring.specs.Ring.{isReleasingLock}
 use Rattle.log.specs.declared.Log.{Log}
 use Rattle.ring.specs.declared.Releasing.{Releasing}
 use Rattle.ring.specs.declared.Releasing.the-variants.{Nothing, Lock as ReleasingLock}
 use Rattle.accesses.specs.Clocks.{clockAt, joinOf, raisedOf, noClock}
-use Rattle.kinds.specs.Kinds.{threadCount, lockCount}
 use Rattle.machine.specs.Holds.{noLog}
 use Rattle.locks.specs.Locks.{noLock, isHeld, isHeldBy}
 use Rattle.machine.proofs.Beginnings.{AllIdle, releases-nothing}

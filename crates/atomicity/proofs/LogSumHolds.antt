@@ -1,15 +1,16 @@
 -- The log's sum holds: each step changes the number of live entries by those that it appends and those that it frees.
 use Prim.Native.Nat.{ℕ, zero, suc, _+_, _-_, _<_, _≤_}
 use mathlib.Core.Path.{_≡_, refl}
-use mathlib.Core.Bool.{Bool, true, false, cond, _&&_, _||_, true≢false}
+use mathlib.Core.Bool.{Bool, true, false, cond, _&&_, _||_}
 use mathlib.Core.List.{List, [], _∷_, map}
 use native.Mathlib.Omega.{arith}
 use lib.Dec.{eqb}
 use lib.ListN.{length, getD, set}
 use borrow.Author.Tests.{eqb-false}
+use Rattle.sizes.specs.Sizes.{threadCount}
 use Rattle.answer.specs.Answer.{isAccepted, valueOf}
 use Rattle.answer.specs.declared.Answer.{Answer}
-use Rattle.answer.specs.declared.Answer.the-variants.{Accepted, NoSuchKind, NoSuchThread, NoSuchPlace, UnusedField, LogFull, LsnsUsedUp, Releasing, Race, AlreadyLogged, NotLogged, EntryNotDurable, LockHeld, LockNotHeld, NotReleasing, NothingToPrune, EarlierReleaseNotPruned, CellNotDurable, NoLiveEntry, Unreadable, WrongLength, BadHead, BadEntry, Cyclic}
+use Rattle.answer.proofs.Beside.{beside-a-refusal}
 use Rattle.answer.proofs.RefusalLaws.{AllFail}
 use Rattle.cache.specs.Cache.{cachedAt}
 use Rattle.log.specs.Entries.{liveCount, flushLogOf, fenceLogOf, evictSlotOf, dropOf, appendOf}
@@ -19,7 +20,7 @@ use Rattle.undo.specs.Regions.{isAcquire, isRelease, goesOn, oldestRegion}
 use Rattle.ring.specs.Ring.{grownTail, flushedTail, fencedTail, releasedTail}
 use Rattle.log.specs.declared.Log.{Log}
 use Rattle.machine.specs.Effects.{loadEffect, logEffect, storeEffect, acquireEffect, logReleaseEffect, releaseEffect, flushEffect, flushLogEffect, fenceEffect, pruneEffect, evictEffect, evictLogEffect, effect}
-use Rattle.kinds.specs.Kinds.{threadCount, Kind, LOAD, LOG, STORE, ACQUIRE, LOGREL, RELEASE, FLUSH, FLUSHLOG, FENCE, PRUNE, EVICT, EVICTLOG}
+use Rattle.kinds.specs.Kinds.{Kind, LOAD, LOG, STORE, ACQUIRE, LOGREL, RELEASE, FLUSH, FLUSHLOG, FENCE, PRUNE, EVICT, EVICTLOG}
 use Rattle.machine.specs.Holds.{noLog, logOf, lockOf}
 use Rattle.machine.specs.Runs.{Step, stepWith, after}
 use Rattle.machine.specs.declared.Machine.{Machine}
@@ -30,7 +31,7 @@ use Rattle.machine.proofs.StepLaws.{testsOf, step-cases}
 use Rattle.atomicity.specs.LogSum.{sum, freedBy, appendedBy, liveIn, LogSum}
 use Rattle.atomicity.proofs.HistoryRuns.{kindNumber, kind-number, thread-in-range}
 use Rattle.answer.proofs.ListCases.{set-cases}
-use Rattle.atomicity.proofs.WorldPrune.{prune-logs}
+use Rattle.atomicity.proofs.PruneKeeps.{prune-logs}
 
 -- one element changed: the old one's number goes, the new one's comes
 sum-set : {A : Type 0} (number : A → ℕ) (list : List A) (place : ℕ) (value default : A) → place < length list → sum (map number (set list place value)) + number (getD list place default) ≡ sum (map number list) + number value
@@ -135,36 +136,9 @@ effect-balanced machine headed kind thread place value fails =
     by-kind EVICT sized inRange order = balanced-same machine headed 11 _ sized refl refl
     by-kind EVICTLOG sized inRange order = balanced-log machine headed 12 _ sized thread (evictSlotOf (logOf machine thread) place) inRange refl order refl
 
--- beside a refusal stands 0
-refusal-value : (answer : Answer) → isAccepted answer ≡ false → valueOf answer ≡ 0
-refusal-value (Accepted given) isRefusal = absurd (true≢false isRefusal)
-refusal-value NoSuchKind isRefusal = refl
-refusal-value NoSuchThread isRefusal = refl
-refusal-value NoSuchPlace isRefusal = refl
-refusal-value UnusedField isRefusal = refl
-refusal-value LogFull isRefusal = refl
-refusal-value LsnsUsedUp isRefusal = refl
-refusal-value Releasing isRefusal = refl
-refusal-value Race isRefusal = refl
-refusal-value AlreadyLogged isRefusal = refl
-refusal-value NotLogged isRefusal = refl
-refusal-value EntryNotDurable isRefusal = refl
-refusal-value LockHeld isRefusal = refl
-refusal-value LockNotHeld isRefusal = refl
-refusal-value NotReleasing isRefusal = refl
-refusal-value NothingToPrune isRefusal = refl
-refusal-value EarlierReleaseNotPruned isRefusal = refl
-refusal-value CellNotDurable isRefusal = refl
-refusal-value NoLiveEntry isRefusal = refl
-refusal-value Unreadable isRefusal = refl
-refusal-value WrongLength isRefusal = refl
-refusal-value BadHead isRefusal = refl
-refusal-value BadEntry isRefusal = refl
-refusal-value Cyclic isRefusal = refl
-
 -- a refused step frees and appends nothing
 refusal-balance : (kind : ℕ) (answer : Answer) → isAccepted answer ≡ false → freed kind answer ≡ appended kind answer
-refusal-balance kind answer isRefusal = rw (isRefusal, refusal-value answer isRefusal) (by-test (eqb kind 10))
+refusal-balance kind answer isRefusal = rw (isRefusal, beside-a-refusal answer isRefusal) (by-test (eqb kind 10))
   where
     by-test : (isPrune : Bool) → cond {A = ℕ} isPrune 0 0 ≡ 0
     by-test true = refl

@@ -14,8 +14,8 @@ use Rattle.undo.specs.declared.Event.the-variants.{Release}
 use Rattle.undo.specs.declared.SyncCount.{SyncCount}
 use Rattle.atomicity.specs.History.{Fed, stepAt}
 use Rattle.atomicity.proofs.Logged.{Entries, Made}
-use Rattle.atomicity.proofs.Ordered.{accepted-inside}
-use Rattle.atomicity.proofs.Places.{thenFed, madeBy, lastOf, length-then, step-before, step-new, last-before}
+use Rattle.atomicity.proofs.Ordered.{andThen, accepted-inside}
+use Rattle.atomicity.proofs.Places.{madeBy, lastOf, length-then, step-before, step-new, last-before}
 use Rattle.atomicity.proofs.RegionsPrune.{PruneRegions}
 use Rattle.atomicity.proofs.ReleaseSteps.{LogsRelease, ifReleases, releases-then, releases-agree, releases-fail, ReleaseSteps}
 
@@ -66,24 +66,24 @@ counted-same {given} {heads} {after} {history} same sameNumber counted = record 
 }
 
 -- a step more whose entry, if it is a LOGREL, is not pruned
-pub counted-longer : {given heads : ℕ → ℕ} {history : List Fed} {pruned : ℕ → ℕ} (fed : Fed) → ((lock : ℕ) → LogsRelease fed lock → heads (fed .thread) ≤ madeBy given (thenFed history fed) (fed .thread) (suc (length history))) → Counted given heads history pruned → Counted given heads (thenFed history fed) pruned
+pub counted-longer : {given heads : ℕ → ℕ} {history : List Fed} {pruned : ℕ → ℕ} (fed : Fed) → ((lock : ℕ) → LogsRelease fed lock → heads (fed .thread) ≤ madeBy given (andThen history fed) (fed .thread) (suc (length history))) → Counted given heads history pruned → Counted given heads (andThen history fed) pruned
 unfolding countBelow
 counted-longer {given} {heads} {history} fed notPruned counted = record {
   number = λ lock.
       let before = counted .number lock in
-      let longer : countBelow (prunedTest given heads history lock) (length history) ≡ countBelow (prunedTest given heads (thenFed history fed) lock) (length history) =
+      let longer : countBelow (prunedTest given heads history lock) (length history) ≡ countBelow (prunedTest given heads (andThen history fed) lock) (length history) =
       count-same
       (prunedTest given heads history lock)
-      (prunedTest given heads (thenFed history fed) lock)
+      (prunedTest given heads (andThen history fed) lock)
       (length history)
       (λ place before. rw (last-before history fed given before, step-before history fed before)) in
       rw (length-then history fed, new-fails lock) (omega arith);
 }
   where
-    new-fails : (lock : ℕ) → prunedTest given heads (thenFed history fed) lock (length history) ≡ false
+    new-fails : (lock : ℕ) → prunedTest given heads (andThen history fed) lock (length history) ≡ false
     new-fails lock =
         rw (step-new history fed)
-        (releases-fail fed lock (ltb (madeBy given (thenFed history fed) (fed .thread) (suc (length history))) (heads (fed .thread))) (λ releases. le-ltb _ _ (notPruned lock releases)))
+        (releases-fail fed lock (ltb (madeBy given (andThen history fed) (fed .thread) (suc (length history))) (heads (fed .thread))) (λ releases. le-ltb _ _ (notPruned lock releases)))
 
 -- a PRUNE counts one more RELEASE of a lock if the region ends in one, and no more of another
 abbrev pub PrunedOne : Entries → ℕ → ℕ → ℕ → ℕ → ℕ → Type 0

@@ -26,30 +26,31 @@ use Rattle.machine.specs.Holds.{lockOf, withLog}
 use Rattle.kinds.specs.Kinds.{Kind, LOAD, LOG, STORE, ACQUIRE, LOGREL, RELEASE, FLUSH, FLUSHLOG, FENCE, PRUNE, EVICT, EVICTLOG}
 use Rattle.locks.specs.declared.Lock.{Lock as LockState}
 use Rattle.machine.specs.declared.Machine.{Machine}
-use Rattle.machine.proofs.Asked.{acquire-asked, log-release-asked, release-asked, flush-log-asked, fence-asked, evict-log-asked, prune-asked}
+use Rattle.machine.proofs.AcceptedMeans.{acquire-asked, log-release-asked, release-asked, flush-log-asked, fence-asked, evict-log-asked, prune-asked}
 use Rattle.machine.proofs.StepLaws.{testsOf}
 use Rattle.reference.specs.Reference.{joins, isCommittedAt}
-use Rattle.machine.proofs.Beginnings.{machineWith, AllIdle, lock-free, freshLogs, fresh-all, on-start}
-use Rattle.atomicity.specs.History.{Fed, stepAt, bookBefore, startMachine, historyAfter}
+use Rattle.machine.proofs.Beginnings.{machineWith, AllIdle, lock-free, freshLogs, fresh-all}
+use Rattle.atomicity.specs.History.{Fed, stepAt, bookBefore, startMachine, startCells, historyAfter}
 use Rattle.atomicity.specs.Races.{endsCommitted, countCommitted, PrunedLaw}
 use Rattle.atomicity.proofs.Logged.{Keeps}
 use Rattle.atomicity.proofs.Cells.{Version}
 use Rattle.atomicity.proofs.Follows.{Follows}
 use Rattle.atomicity.proofs.HistoryRuns.{kindNumber, tookStep, run-keeps}
-use Rattle.atomicity.proofs.Places.{thenFed, madeBy, step-new}
+use Rattle.atomicity.proofs.Places.{madeBy, step-new}
 use Rattle.atomicity.proofs.PrunedCounts.{countBelow, prunedTest, Counted, counted-same, counted-longer, PrunedOne, counted-prune}
 use Rattle.atomicity.proofs.Regions.{joinedPlace, joins-release}
 use Rattle.atomicity.proofs.ReleaseSteps.{LogsRelease, releases-agree, ReleaseSteps, NewSteps, steps-then, no-entry, other-entry, new-release}
 use Rattle.atomicity.proofs.StepsFollow.{effect-follows, refused-follows}
 use Rattle.atomicity.proofs.Times.{Formed, aRelease}
-use Rattle.atomicity.proofs.Views.{logAt, same-view}
-use Rattle.atomicity.proofs.Whole.{Whole, bookOf}
-use Rattle.atomicity.proofs.WholeRuns.{beginningOf, begin-whole, after-whole}
-use Rattle.atomicity.proofs.World.{Beginning, Ghost, World, entriesOf}
-use Rattle.atomicity.proofs.WorldQuiet.{EntriesStay, log-stays, logs-stay, world-refused, world-load, world-flush, world-evict, world-flush-log, world-fence, world-evict-log, storedVersions, world-store}
-use Rattle.atomicity.proofs.WorldAppends.{by-lock, appends, last-new, acquireEntry, releaseEntry, storeEntry, ghostThen, world-acquire, world-log-release, log-appends, loggedVersions, world-log}
-use Rattle.atomicity.proofs.WorldRelease.{world-release}
-use Rattle.atomicity.proofs.WorldPrune.{prune-regions, prune-logs, world-prune}
+use Rattle.atomicity.proofs.LogViews.{logAt, same-view}
+use Rattle.atomicity.proofs.RunInvariant.{Whole, bookOf}
+use Rattle.atomicity.proofs.RunInvariantHolds.{beginningWith, begin-whole, on-start-cells, after-whole}
+use Rattle.atomicity.proofs.MachineInvariant.{Beginning, Ghost, World, entriesOf}
+use Rattle.atomicity.proofs.QuietStepsKeep.{EntriesStay, log-stays, logs-stay, world-refused, world-load, world-flush, world-evict, world-flush-log, world-fence, world-evict-log, storedVersions, world-store}
+use Rattle.atomicity.proofs.AppendsKeep.{by-lock, appends, last-new, acquireEntry, releaseEntry, storeEntry, ghostThen, world-acquire, world-log-release, log-appends, loggedVersions, world-log}
+use Rattle.atomicity.proofs.ReleaseKeeps.{world-release}
+use Rattle.atomicity.proofs.PruneKeeps.{prune-regions, prune-logs, world-prune}
+use Rattle.atomicity.proofs.Ordered.{andThen}
 
 -- each thread's head, and each lock's counter
 abbrev headsOf : Machine → ℕ → ℕ
@@ -90,7 +91,7 @@ module _ {start : Beginning} {machine : Machine} {history : List Fed} (holds : P
   was = holds .ghost
 
   -- a step that moves no head and changes no counter
-  headless : (after : Machine) (fed : Fed) (next : Ghost) → World start after (thenFed history fed) next → Follows after (thenFed history fed) → NewSteps history fed (entriesOf start machine was) (entriesOf start after next) → ((thread : ℕ) → headsOf after thread ≡ headsOf machine thread) → ((lock : ℕ) → prunedOf after lock ≡ prunedOf machine lock) → ((lock : ℕ) → LogsRelease fed lock → headsOf machine (fed .thread) ≤ madeBy (start .before) (thenFed history fed) (fed .thread) (suc (length history))) → PrunesCount start after (thenFed history fed)
+  headless : (after : Machine) (fed : Fed) (next : Ghost) → World start after (andThen history fed) next → Follows after (andThen history fed) → NewSteps history fed (entriesOf start machine was) (entriesOf start after next) → ((thread : ℕ) → headsOf after thread ≡ headsOf machine thread) → ((lock : ℕ) → prunedOf after lock ≡ prunedOf machine lock) → ((lock : ℕ) → LogsRelease fed lock → headsOf machine (fed .thread) ≤ madeBy (start .before) (andThen history fed) (fed .thread) (suc (length history))) → PrunesCount start after (andThen history fed)
   headless after fed next world follows new heads pruned live = record {
     ghost = next;
     world = world;
@@ -100,11 +101,11 @@ module _ {start : Beginning} {machine : Machine} {history : List Fed} (holds : P
   }
 
   -- and makes no entry
-  quiet : (after : Machine) (fed : Fed) (next : Ghost) → World start after (thenFed history fed) next → Follows after (thenFed history fed) → Keeps (entriesOf start machine was) (entriesOf start after next) (length history) → ((thread : ℕ) → headsOf after thread ≡ headsOf machine thread) → ((lock : ℕ) → prunedOf after lock ≡ prunedOf machine lock) → ((lock : ℕ) → LogsRelease fed lock → ⊥) → PrunesCount start after (thenFed history fed)
+  quiet : (after : Machine) (fed : Fed) (next : Ghost) → World start after (andThen history fed) next → Follows after (andThen history fed) → Keeps (entriesOf start machine was) (entriesOf start after next) (length history) → ((thread : ℕ) → headsOf after thread ≡ headsOf machine thread) → ((lock : ℕ) → prunedOf after lock ≡ prunedOf machine lock) → ((lock : ℕ) → LogsRelease fed lock → ⊥) → PrunesCount start after (andThen history fed)
   quiet after fed next world follows keeps heads pruned noLogrel =
       headless after fed next world follows (no-entry keeps noLogrel) heads pruned (λ lock releases. absurd (noLogrel lock releases))
 
-  refused-counts : (fed : Fed) → fed .accepted ≡ false → PrunesCount start machine (thenFed history fed)
+  refused-counts : (fed : Fed) → fed .accepted ≡ false → PrunesCount start machine (andThen history fed)
   refused-counts fed isRefused =
       quiet
       machine
@@ -120,9 +121,9 @@ module _ {start : Beginning} {machine : Machine} {history : List Fed} (holds : P
   module _ (thread place value : ℕ) where
     -- what each kind of step keeps
     abbrev Kept : Kind → Type 0
-    Kept kind = AllFail (testsOf machine kind thread place value) → PrunesCount start (effect machine kind thread place value .machine) (thenFed history (tookStep kind thread place value))
+    Kept kind = AllFail (testsOf machine kind thread place value) → PrunesCount start (effect machine kind thread place value .machine) (andThen history (tookStep kind thread place value))
 
-    quiet-kind : (kind : Kind) (versions : ℕ → List Version) → World start (effect machine kind thread place value .machine) (thenFed history (tookStep kind thread place value)) (record { event = was .event; time = was .time; versions = versions }) → EntriesStay start machine (effect machine kind thread place value .machine) was (length history) → ((lock : ℕ) → prunedOf (effect machine kind thread place value .machine) lock ≡ prunedOf machine lock) → (kindNumber kind ≡ 5 → ⊥) → Kept kind
+    quiet-kind : (kind : Kind) (versions : ℕ → List Version) → World start (effect machine kind thread place value .machine) (andThen history (tookStep kind thread place value)) (record { event = was .event; time = was .time; versions = versions }) → EntriesStay start machine (effect machine kind thread place value .machine) was (length history) → ((lock : ℕ) → prunedOf (effect machine kind thread place value .machine) lock ≡ prunedOf machine lock) → (kindNumber kind ≡ 5 → ⊥) → Kept kind
     quiet-kind kind versions world stay pruned noLogrel fails =
         quiet
         (effect machine kind thread place value .machine)
@@ -313,7 +314,7 @@ module _ {start : Beginning} {machine : Machine} {history : List Fed} (holds : P
               (counted-longer fed (λ lock releases. absurd (noLogrel lock releases)) (counted-prune region (holds .steps) (prune-one fails) (holds .counted)));
         }
 
-  effect-counts : (kind : Kind) (thread place value : ℕ) → AllFail (testsOf machine kind thread place value) → PrunesCount start (effect machine kind thread place value .machine) (thenFed history (tookStep kind thread place value))
+  effect-counts : (kind : Kind) (thread place value : ℕ) → AllFail (testsOf machine kind thread place value) → PrunesCount start (effect machine kind thread place value .machine) (andThen history (tookStep kind thread place value))
   effect-counts LOAD = load-counts
   effect-counts LOG = log-counts
   effect-counts STORE = store-counts
@@ -328,7 +329,8 @@ module _ {start : Beginning} {machine : Machine} {history : List Fed} (holds : P
   effect-counts EVICTLOG = evict-log-counts
 
 -- at a beginning no step was taken, no entry made, and each counter is 0
-begin-counts : (cells : List ℕ) (logs : List Log) → length cells ≡ cellCount → AllIdle logs → PrunesCount (beginningOf (machineWith cells logs)) (machineWith cells logs) []
+begin-counts : (cells : List ℕ) (logs : List Log) → length cells ≡ cellCount → AllIdle logs
+    → PrunesCount (beginningWith cells logs) (machineWith cells logs) []
 unfolding countBelow
 begin-counts cells logs isLength all =
     let whole = begin-whole cells logs isLength all in
@@ -347,11 +349,14 @@ pub pruned-law : PrunedLaw
 pruned-law words steps lock inRange =
     let holds =
     run-keeps
-    (PrunesCount (beginningOf (startMachine words)))
+    (PrunesCount (beginningWith (startCells words) freshLogs))
     (λ machine history holds next isRefused. refused-counts holds next isRefused)
     (λ machine history holds kind thread place value fails. effect-counts holds kind thread place value fails)
     (startMachine words)
     []
-    (on-start (λ machine. PrunesCount (beginningOf machine) machine []) (λ cells isLength. begin-counts cells freshLogs isLength fresh-all) words)
+    (on-start-cells
+    (λ cells machine. PrunesCount (beginningWith cells freshLogs) machine [])
+    (λ cells isLength. begin-counts cells freshLogs isLength fresh-all)
+    words)
     steps in
     holds .counted .number lock ∙ sym (count-committed (after-whole words steps) lock (length (historyAfter words steps)))

@@ -6,9 +6,9 @@ use mathlib.Core.List.{List, [], _∷_}
 use mathlib.Core.Logic.{_⊎_, inl, inr, ⊎-elim}
 use native.Mathlib.Omega.{arith}
 use lib.ListN.{length}
+use Rattle.sizes.specs.Sizes.{threadCount}
 use Rattle.cache.specs.Cache.{cellCount}
 use Rattle.machine.specs.Clocks.{loadRaces, logRaces}
-use Rattle.kinds.specs.Kinds.{threadCount}
 use Rattle.machine.specs.declared.Machine.{Machine}
 use Rattle.atomicity.specs.History.{Fed, stepAt, machineAfter, historyAfter}
 use Rattle.atomicity.specs.HappensBefore.{HappensBefore}

@@ -8,11 +8,11 @@ use native.Mathlib.Decide.{ℕ-discrete}
 use native.Mathlib.Omega.{arith}
 use lib.ListN.{length, getD}
 use borrow.Author.Tests.{leb-true, leb-false, not-true, not-false}
+use Rattle.sizes.specs.Sizes.{threadCount}
 use Rattle.answer.proofs.BelowLaws.{someBelow-none, someBelow-found}
 use Rattle.cache.specs.Cache.{cellCount}
 use Rattle.accesses.specs.Clocks.{clockAt, accessPlace}
 use Rattle.machine.specs.Clocks.{loadRaces, logRaces}
-use Rattle.kinds.specs.Kinds.{threadCount}
 use Rattle.machine.specs.Holds.{clockOf}
 use Rattle.machine.specs.declared.Machine.{Machine}
 use Rattle.atomicity.specs.History.{Fed, stepAt}

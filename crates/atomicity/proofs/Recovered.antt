@@ -11,6 +11,7 @@ use mathlib.Core.Logic.{_⊎_, inl, inr, ⊎-elim, by-cases}
 use lib.ListN.{length, getD, length-map, List·getD-eq-default}
 use lib.Dec.{eqb, ltb}
 use borrow.Author.Tests.{lt-ltb, le-ltb, ne-eqb}
+use Rattle.sizes.specs.Sizes.{threadCount}
 use Rattle.answer.specs.Lists.{someBelow}
 use Rattle.answer.proofs.BelowLaws.{none-someBelow}
 use Rattle.answer.proofs.ListLaws.{length-tab, getD-tab}
@@ -30,7 +31,7 @@ use Rattle.machine.specs.Image.{imageOf}
 use Rattle.machine.specs.declared.Machine.{Machine}
 use Rattle.machine.proofs.Counts.{Counted, count-bound}
 use Rattle.recovery.specs.Recover.{isBadHead, isBadEntry, hasBadEntry}
-use Rattle.recovery.specs.Undo.{StoredLog, storedLogs, storedLog, entryKind, entryPlace, entryValue, leftOf, threadCount, undoStart}
+use Rattle.recovery.specs.Undo.{StoredLog, storedLogs, storedLog, presentIn, entryKind, entryPlace, entryValue, leftOf, undoStart}
 use Rattle.reference.specs.Reference.{Book, emptyBook, openOf, openUnless, write, feed, feedAccepted, cellsOf}
 use Rattle.atomicity.specs.History.{Fed, fedBook}
 use Rattle.atomicity.proofs.Logged.{Entries, Made, Is, IsReleaseOf, IsAcquireOf}
@@ -38,9 +39,9 @@ use Rattle.atomicity.proofs.Leads.{Leads, inThread, byLock, through, le
 use Rattle.atomicity.proofs.OldestLive.{prunedValue, undo-cell, leads-present}
 use Rattle.atomicity.proofs.Times.{Formed, aStore, anAcquire, aRelease}
 use Rattle.atomicity.proofs.Undoable.{Remains, Below, Untouched, Oldest, Undoable, older, handed, joined}
-use Rattle.atomicity.proofs.Views.{logAt}
-use Rattle.atomicity.proofs.Whole.{Whole, bookOf}
-use Rattle.atomicity.proofs.World.{Beginning, Ghost, World, entriesOf}
+use Rattle.atomicity.proofs.LogViews.{logAt}
+use Rattle.atomicity.proofs.RunInvariant.{Whole, bookOf}
+use Rattle.atomicity.proofs.MachineInvariant.{Beginning, Ghost, World, entriesOf}
 use Rattle.atomicity.proofs.Writes.{book-cell, book-length}
 
 -- the reference model keeps its start cells
@@ -149,8 +150,8 @@ module _ {start : Beginning} {machine : Machine} {history : List Fed} (whole : W
   left-is : (thread : ℕ) → thread < 4 → leftOf left thread ≡ presentOf (wordsOf (logAt (machine .logs) thread .persisted)) (logAt (machine .logs) thread .head .0)
   unfolding undoStart
   left-is thread inRange =
-      getD-mapped (λ (log : StoredLog). presentOf (log .stretch) (log .head)) (storedLogs image) thread (record { head = 0; stretch = [] }) 0 (stored-in thread inRange) ∙
-      ap (λ (log : StoredLog). presentOf (log .stretch) (log .head)) (stored-is thread inRange)
+      getD-mapped presentIn (storedLogs image) thread (record { head = 0; stretch = [] }) 0 (stored-in thread inRange) ∙
+      ap presentIn (stored-is thread inRange)
 
   left-thread : (thread index : ℕ) → index < leftOf left thread → thread < 4
   left-thread thread index isLeft =
@@ -322,10 +323,10 @@ module _ {start : Beginning} {machine : Machine} {history : List Fed} (whole : W
   entries-good =
       none-someBelow threadCount (λ thread. hasBadEntry (storedLog (storedLogs image) thread)) (λ thread inRange.
       none-someBelow
-      (presentOf (storedLog (storedLogs image) thread .stretch) (storedLog (storedLogs image) thread .head))
+      (presentIn (storedLog (storedLogs image) thread))
       (λ index. isBadEntry (entryKind (storedLog (storedLogs image) thread) index) (entryPlace (storedLog (storedLogs image) thread) index) (entryValue (storedLog (storedLogs image) thread) index))
       (λ index below.
-      let same : presentOf (storedLog (storedLogs image) thread .stretch) (storedLog (storedLogs image) thread .head) ≡ leftOf left thread = ap (λ (log : StoredLog). presentOf (log .stretch) (log .head)) (stored-is thread inRange) ∙ sym (left-is thread inRange) in
+      let same : presentIn (storedLog (storedLogs image) thread) ≡ leftOf left thread = ap presentIn (stored-is thread inRange) ∙ sym (left-is thread inRange) in
       entry-good thread index (omega (arith, same, below))))
 
   -- the cells wanted

@@ -30,14 +30,51 @@ pub record PruneRegions (old new : Entries) (now thread size : ℕ) : Type 0 whe
   pub ends : old .head thread + size < old .next thread → (isAcquire (old .event thread (old .head thread + size)) ≡ true) ⊎ (isRelease (old .event thread (old .head thread + size - 1)) ≡ true)
   pub finished : (old .head thread + size < old .next thread) ⊎ (isRelease (old .event thread (old .head thread + size - 1)) ≡ true)
 
-module _ {old new : Entries} {now thread size : ℕ} {regions : List Region} {home : ℕ → ℕ → ℕ} (step : PruneRegions old new now thread size) (holds : RegionsHold old regions home) where
-  -- an entry of the pruned region
-  made-inside : (count : ℕ) → count < size → Made old thread (old .head thread + count)
-  made-inside count under =
-      let since = step .headSince in
-      let bound = step .within in
-      record { since = omega arith; below = omega arith }
+module _ {entries : Entries} {regions : List Region} {home : ℕ → ℕ → ℕ} {thread : ℕ} (holds : RegionsHold entries regions home) where
+  -- so many entries from this one on, with an ACQUIRE only as the first and a RELEASE only as the last, stand in one region
+  pub run-together : (first size : ℕ) → entries .before thread < first → first + size ≤ entries .next thread
+      → ((number : ℕ) → first < number → number < first + size → isAcquire (entries .event thread number) ≡ false)
+      → ((number : ℕ) → first ≤ number → suc number < first + size → isRelease (entries .event thread number) ≡ false)
+      → (count : ℕ) → count < size → home thread (first + count) ≡ home thread first
+  run-together first size since within noAcquire noRelease zero under = rw (add-zero first)
+  run-together first size since within noAcquire noRelease (suc count) under =
+      let place = add-suc first count in
+      let nearer : Made entries thread (first + count) = record { since = omega arith; below = omega arith } in
+      let further : Made entries thread (suc (first + count)) = record { since = omega arith; below = omega arith } in
+      let noEnd = noRelease (first + count) (omega arith) (omega arith) in
+      let noBegin = noAcquire (suc (first + count)) (omega arith) (omega arith) in
+      let nearest = run-together first size since within noAcquire noRelease count (omega arith) in
+      rw place (sym (holds .same nearer further noEnd noBegin) ∙ nearest)
 
+  -- the region of the first live entry is the thread's first uncommitted one
+  pub oldest-uncommitted : Made entries thread (entries .head thread)
+      → First (isUncommittedOf thread) regions (home thread (entries .head thread))
+  oldest-uncommitted made =
+      let isLive = holds .committed made ∙ le-ltb (entries .head thread) (entries .head thread) (omega arith) in
+      record {
+        inRange = holds .inRange made;
+        holds = test-holds (holds .owner made) (rw isLive);
+        before = λ earlier under. test-fails (nothing-before earlier under);
+      }
+    where
+      nothing-before : (earlier : ℕ) → earlier < home thread (entries .head thread) → regionAt regions earlier .thread ≡ thread
+          → not (regionAt regions earlier .isCommitted) ≡ true → ⊥
+      nothing-before earlier under isOwner notCommitted =
+          let inBounds = holds .inRange made in
+          let found = holds .inhabited (omega arith) isOwner in
+          let place = found .2 in
+          by-cases
+          (decLt (found .0) (entries .head thread))
+          (λ pruned.
+          let isCommitted : isCommittedAt regions earlier ≡ true =
+          ap (isCommittedAt regions) (sym place) ∙ (holds .committed (found .1) ∙ lt-ltb _ _ pruned) in
+          true≢false (sym isCommitted ∙ not-true _ notCommitted))
+          (λ notPruned.
+          let onward = holds .grows made (found .1) (omega (arith, notPruned)) in
+          omega arith)
+
+module _ {old new : Entries} {now thread size : ℕ} {regions : List Region} {home : ℕ → ℕ → ℕ} (step : PruneRegions old new now thread size) (holds : RegionsHold old regions home) where
+  -- the first entry of the pruned region
   head-made : Made old thread (old .head thread)
   head-made =
       let since = step .headSince in
@@ -45,16 +82,9 @@ module _ {old new : Entries} {now thread size : ℕ} {regions : List Region} {ho
       let some-entry = step .notEmpty in
       record { since = omega arith; below = omega arith }
 
-  -- all of them stand in the region of the first one
+  -- all its entries stand in the region of the first one
   together : (count : ℕ) → count < size → home thread (old .head thread + count) ≡ home thread (old .head thread)
-  together zero under = rw (add-zero (old .head thread))
-  together (suc count) under =
-      let place = add-suc (old .head thread) count in
-      let nearer = made-inside count (omega arith) in
-      let further : Made old thread (suc (old .head thread + count)) = rw place at (made-inside (suc count) under) in
-      let noRelease = step .releaseLast (old .head thread + count) (omega arith) (omega arith) in
-      let noAcquire = step .acquireFirst (suc (old .head thread + count)) (omega arith) (omega arith) in
-      rw place (sym (holds .same nearer further noRelease noAcquire) ∙ together count (omega arith))
+  together = run-together holds (old .head thread) size (step .headSince) (step .within) (step .acquireFirst) (step .releaseLast)
 
   inside : {number : ℕ} → old .head thread ≤ number → number < old .head thread + size → home thread number ≡ home thread (old .head thread)
   inside {number} from below =
@@ -82,25 +112,7 @@ module _ {old new : Entries} {now thread size : ℕ} {regions : List Region} {ho
 
   -- so the region of the first live entry is the thread's first uncommitted one
   pub oldest-region : First (isUncommittedOf thread) regions (home thread (old .head thread))
-  oldest-region = record {
-    inRange = holds .inRange head-made;
-    holds = test-holds (holds .owner head-made) (rw (holds .committed head-made ∙ le-ltb (old .head thread) (old .head thread) (omega arith)));
-    before = λ earlier under. test-fails (nothing-before earlier under);
-  }
-    where
-      nothing-before : (earlier : ℕ) → earlier < home thread (old .head thread) → regionAt regions earlier .thread ≡ thread → not (regionAt regions earlier .isCommitted) ≡ true → ⊥
-      nothing-before earlier under isOwner notCommitted =
-          let inBounds = holds .inRange head-made in
-          let found = holds .inhabited (omega arith) isOwner in
-          let place = found .2 in
-          by-cases
-          (decLt (found .0) (old .head thread))
-          (λ pruned.
-          let isCommitted : isCommittedAt regions earlier ≡ true = ap (isCommittedAt regions) (sym place) ∙ (holds .committed (found .1) ∙ lt-ltb _ _ pruned) in
-          true≢false (sym isCommitted ∙ not-true _ notCommitted))
-          (λ notPruned.
-          let onward = holds .grows head-made (found .1) (omega (arith, notPruned)) in
-          omega arith)
+  oldest-region = oldest-uncommitted holds head-made
 
   -- nothing but what is committed changes
   same-part : {A : Type 0} (part : Region → A) → ((region : Region) → part (committedOf region) ≡ part region) → (place : ℕ) → part (regionAt (commitOldest thread regions) place) ≡ part (regionAt regions place)

@@ -15,8 +15,8 @@ use Rattle.undo.specs.declared.Event.the-variants.{Release}
 use Rattle.undo.specs.declared.SyncCount.{SyncCount}
 use Rattle.atomicity.specs.History.{Fed, stepAt}
 use Rattle.atomicity.proofs.Logged.{Entries, Is, Grows, Keeps, Appends, still-is, kept-is, is-cases, new-is}
-use Rattle.atomicity.proofs.Ordered.{accepted-inside}
-use Rattle.atomicity.proofs.Places.{thenFed, lastOf, length-then, step-before, step-new, last-was}
+use Rattle.atomicity.proofs.Ordered.{andThen, accepted-inside}
+use Rattle.atomicity.proofs.Places.{lastOf, length-then, step-before, step-new, last-was}
 
 -- the step is an accepted LOGREL (5) of the lock
 pub record LogsRelease (fed : Fed) (lock : ℕ) : Type 0 where
@@ -64,18 +64,18 @@ pub record ReleaseSteps (history : List Fed) (entries : Entries) : Type 0 where
 -- what the step itself stands at, and which entries it made
 pub record NewSteps (history : List Fed) (fed : Fed) (old new : Entries) : Type 0 where
   pub grows : Grows old new (length history)
-  pub standsNew : {lock : ℕ} → LogsRelease fed lock → StandsAt (thenFed history fed) new (length history) lock
-  pub madeNew : {thread number lock : ℕ} {count : SyncCount} → Is new thread number (Release lock count) → Is old thread number (Release lock count) ⊎ MadeAt (new .before) (thenFed history fed) thread number lock (new .time thread number)
+  pub standsNew : {lock : ℕ} → LogsRelease fed lock → StandsAt (andThen history fed) new (length history) lock
+  pub madeNew : {thread number lock : ℕ} {count : SyncCount} → Is new thread number (Release lock count) → Is old thread number (Release lock count) ⊎ MadeAt (new .before) (andThen history fed) thread number lock (new .time thread number)
 
 -- the step at a place of the longer history was there, or is the new one
-old-or-new : (history : List Fed) (fed : Fed) {place : ℕ} → stepAt (thenFed history fed) place .accepted ≡ true → (place < length history) ⊎ (place ≡ length history)
+old-or-new : (history : List Fed) (fed : Fed) {place : ℕ} → stepAt (andThen history fed) place .accepted ≡ true → (place < length history) ⊎ (place ≡ length history)
 old-or-new history fed {place} isAccepted =
-    let inside = accepted-inside (thenFed history fed) place isAccepted in
+    let inside = accepted-inside (andThen history fed) place isAccepted in
     let longer = length-then history fed in
     by-cases (decLt place (length history)) inl (λ notBefore. inr (omega (arith, notBefore)))
 
 module _ {history : List Fed} {fed : Fed} {old new : Entries} (step : NewSteps history fed old new) (steps : ReleaseSteps history old) where
-  stands-before : {place lock : ℕ} → place < length history → LogsRelease (stepAt (thenFed history fed) place) lock → StandsAt (thenFed history fed) new place lock
+  stands-before : {place lock : ℕ} → place < length history → LogsRelease (stepAt (andThen history fed) place) lock → StandsAt (andThen history fed) new place lock
   stands-before before releases =
       let found = steps .stands (rw (step-before history fed before) at releases) in
       record {
@@ -84,7 +84,7 @@ module _ {history : List Fed} {fed : Fed} {old new : Entries} (step : NewSteps h
         isTime = rw (last-was history fed (step .grows) before, step-before history fed before) (step .grows .timeSame _ _ (found .isEntry .made) ∙ found .isTime);
       }
 
-  made-before : {thread number lock : ℕ} {count : SyncCount} → Is old thread number (Release lock count) → MadeAt (new .before) (thenFed history fed) thread number lock (new .time thread number)
+  made-before : {thread number lock : ℕ} {count : SyncCount} → Is old thread number (Release lock count) → MadeAt (new .before) (andThen history fed) thread number lock (new .time thread number)
   made-before {thread} {number} is =
       let found = steps .made is in
       let before = accepted-inside history (old .time thread number) (found .isStep .isAccepted) in
@@ -94,7 +94,7 @@ module _ {history : List Fed} {fed : Fed} {old new : Entries} (step : NewSteps h
         isLast = last-was history fed (step .grows) before ∙ found .isLast;
       })
 
-  pub steps-then : ReleaseSteps (thenFed history fed) new
+  pub steps-then : ReleaseSteps (andThen history fed) new
   steps-then = record {
     stands = λ {place} releases.
         ⊎-elim
@@ -120,7 +120,7 @@ other-entry appends noLogrel noRelease = record {
 }
 
 -- a LOGREL, which makes its RELEASE entry
-pub new-release : {history : List Fed} {fed : Fed} {old new : Entries} {thread lock : ℕ} {count : SyncCount} → Appends old new (length history) thread (Release lock count) → LogsRelease fed lock → fed .thread ≡ thread → lastOf (new .before) (thenFed history fed) (length history) ≡ old .next thread → NewSteps history fed old new
+pub new-release : {history : List Fed} {fed : Fed} {old new : Entries} {thread lock : ℕ} {count : SyncCount} → Appends old new (length history) thread (Release lock count) → LogsRelease fed lock → fed .thread ≡ thread → lastOf (new .before) (andThen history fed) (length history) ≡ old .next thread → NewSteps history fed old new
 new-release {history} {fed} {old} {new} {thread} {lock} {count} appends releases isThread isLast = record {
   grows = appends .grows;
   standsNew = λ {lock = other} same.
@@ -145,5 +145,5 @@ new-release {history} {fed} {old} {new} {thread} {lock} {count} appends releases
       (is-cases appends is);
 }
   where
-    here : stepAt (thenFed history fed) (length history) .thread ≡ thread
+    here : stepAt (andThen history fed) (length history) .thread ≡ thread
     here = ap (λ (s : Fed). s .thread) (step-new history fed) ∙ isThread

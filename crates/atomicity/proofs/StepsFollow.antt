@@ -7,6 +7,7 @@ use mathlib.Core.Logic.{inr, ⊎-elim, _≢_}
 use native.Mathlib.Omega.{arith}
 use lib.ListN.{set, replicate}
 use borrow.Author.Tests.{ltb-true, not-false}
+use Rattle.sizes.specs.Sizes.{threadCount, lockCount}
 use Rattle.answer.proofs.RefusalLaws.{AllFail}
 use Rattle.cache.specs.Cache.{cellCount, cachedAt}
 use Rattle.ring.specs.Ring.{grownTail, flushedTail, fencedTail, releasedTail}
@@ -19,7 +20,7 @@ use Rattle.log.specs.declared.Log.{Log}
 use Rattle.accesses.specs.Clocks.{clockAt, noClock, startClocks}
 use Rattle.machine.specs.Clocks.{logRaces}
 use Rattle.machine.specs.Effects.{loadEffect, logEffect, storeEffect, acquireEffect, logReleaseEffect, releaseEffect, flushEffect, flushLogEffect, fenceEffect, pruneEffect, countPruned, evictEffect, evictLogEffect, effect}
-use Rattle.kinds.specs.Kinds.{threadCount, lockCount, Kind, LOAD, LOG, STORE, ACQUIRE, LOGREL, RELEASE, FLUSH, FLUSHLOG, FENCE, PRUNE, EVICT, EVICTLOG}
+use Rattle.kinds.specs.Kinds.{Kind, LOAD, LOG, STORE, ACQUIRE, LOGREL, RELEASE, FLUSH, FLUSHLOG, FENCE, PRUNE, EVICT, EVICTLOG}
 use Rattle.machine.specs.Holds.{logOf, lockOf, clockOf, withLog}
 use Rattle.machine.specs.Refusals.{logTests, acquireTests, logReleaseTests, stateTests}
 use Rattle.locks.specs.LockSteps.{releaseTests}

@@ -8,8 +8,9 @@ use mathlib.Core.Option.{Option, none, some, Option·none-ne-some, Option·some-
 use native.Mathlib.Decide.{ℕ-discrete, decLt}
 use native.Mathlib.Omega.{arith}
 use borrow.Author.Tests.{ltb-true, ltb-false}
+use Rattle.sizes.specs.Sizes.{threadCount}
 use Rattle.answer.proofs.BelowLaws.{someBelow-found, someBelow-none}
-use Rattle.recovery.specs.Undo.{StoredLog, Undo, threadCount, leftOf, mayTake, lowestFrom, takeLast, takeFrom, takeNext, takeMany, hasLeft}
+use Rattle.recovery.specs.Undo.{StoredLog, Undo, leftOf, mayTake, lowestFrom, takeLast, takeFrom, takeNext, takeMany, hasLeft}
 use Rattle.recovery.proofs.UndoLaws.{lowest-may}
 use Rattle.atomicity.specs.AnyOrder.{Undoing}
 use Rattle.atomicity.proofs.Undoable.{Undoable}

@@ -6,7 +6,8 @@ use mathlib.Core.List.{List}
 use native.Mathlib.Decide.{ℕ-discrete}
 use native.Mathlib.Omega.{arith}
 use lib.ListN.{length, getD}
-use Rattle.recovery.specs.Undo.{StoredLog, Undo, threadCount, storedLog, entryKind, entryPlace, leftOf}
+use Rattle.sizes.specs.Sizes.{threadCount}
+use Rattle.recovery.specs.Undo.{StoredLog, Undo, storedLog, entryKind, entryPlace, leftOf}
 use Rattle.atomicity.proofs.Undoable.{Remains, Handed, Below, Oldest, Undoable}
 use Rattle.atomicity.proofs.UndoSteps.{lastOf, moved, handed-moved, Takeable, Last, last-says, Taken, taken-within, left-or-last, remains-or-last}
 

@@ -10,9 +10,10 @@ use lib.ListN.{length, getD, length-set, List·getD-eq-default}
 use lib.Seq.{getD-set-same, getD-set-other}
 use lib.Dec.{eqb}
 use borrow.Author.Tests.{eqb-true, eqb-false, eq-eqb, ne-eqb, ltb-true, lt-ltb, not-true}
+use Rattle.sizes.specs.Sizes.{threadCount}
 use Rattle.answer.specs.Lists.{someBelow}
 use Rattle.answer.proofs.BelowLaws.{someBelow-found, found-someBelow}
-use Rattle.recovery.specs.Undo.{StoredLog, Undo, threadCount, storedLog, entryKind, entryPlace, entryValue, leftOf, hasLaterAcquire, mayTakeEntry, mayTake, takeLast}
+use Rattle.recovery.specs.Undo.{StoredLog, Undo, storedLog, entryKind, entryPlace, entryValue, leftOf, hasLaterAcquire, mayTakeEntry, mayTake, takeLast}
 use Rattle.atomicity.proofs.Undoable.{Remains, Handed}
 
 -- the index of a thread's last entry left

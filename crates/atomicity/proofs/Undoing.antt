@@ -9,11 +9,12 @@ use native.Mathlib.Omega.{arith}
 use lib.ListN.{length}
 use lib.Seq.{ext-getD}
 use borrow.Author.Tests.{eq-eqb}
+use Rattle.sizes.specs.Sizes.{threadCount}
 use Rattle.answer.specs.Lists.{someBelow}
 use Rattle.answer.specs.Refusals.{unless}
 use Rattle.answer.specs.declared.Answer.the-variants.{Accepted}
-use Rattle.recovery.specs.Recover.{isBadHead, hasBadEntry, recoverTests, recoverOf}
-use Rattle.recovery.specs.Undo.{StoredLog, Undo, threadCount, storedLog, storedLogs, takeMany, undoStart, undone, hasLeft}
+use Rattle.recovery.specs.Recover.{isBadHead, hasBadEntry, imageTests, recoverTests, recoverOf}
+use Rattle.recovery.specs.Undo.{StoredLog, Undo, storedLog, storedLogs, takeMany, undoStart, undone, hasLeft}
 use Rattle.atomicity.specs.AnyOrder.{Undoing}
 use Rattle.atomicity.proofs.Undoable.{Undoable}
 use Rattle.atomicity.proofs.UndoSteps.{thread-below}
@@ -57,7 +58,7 @@ pub recovers : (image buffer final : List ℕ) → length image ≡ 1156 → len
     → someBelow threadCount (λ thread. hasBadEntry (storedLog (storedLogs image) thread)) ≡ false
     → Undoable (storedLogs image) (undoStart image .left) (undoStart image .cells) final
     → (recoverOf image buffer .answer ≡ Accepted 0) × (recoverOf image buffer .buffer ≡ final)
-unfolding recoverOf recoverTests unless undone
+unfolding recoverOf recoverTests imageTests unless undone
 recovers image buffer final imageLength bufferLength goodHeads goodEntries undoable =
     let ends = in-order (storedLogs image) (undoStart image .left) (undoStart image .cells) final undoable in
     rw (eq-eqb _ _ imageLength, eq-eqb _ _ bufferLength, goodHeads, goodEntries, ends .0) (refl, ends .1)

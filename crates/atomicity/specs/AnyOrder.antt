@@ -4,9 +4,10 @@ use mathlib.Core.Path.{_≡_}
 use mathlib.Core.Bool.{true, false}
 use mathlib.Core.List.{List}
 use lib.ListN.{length, take}
+use Rattle.sizes.specs.Sizes.{threadCount}
 use Rattle.machine.specs.Image.{imageOf}
 use Rattle.machine.specs.Runs.{Step}
-use Rattle.recovery.specs.Undo.{StoredLog, Undo, threadCount, storedLogs, mayTake, takeLast, undoStart, hasLeft}
+use Rattle.recovery.specs.Undo.{StoredLog, Undo, storedLogs, mayTake, takeLast, undoStart, hasLeft}
 use Rattle.reference.specs.Reference.{cellsOf}
 use Rattle.atomicity.specs.History.{machineAfter, bookAfter}
 

@@ -1,7 +1,7 @@
 -- Document 01's order on the accepted steps of a history, named by their places, and on the reference model's regions.
 use Prim.Native.Nat.{ℕ, _<_}
 use mathlib.Core.Path.{_≡_}
-use mathlib.Core.Bool.{Bool, true}
+use mathlib.Core.Bool.{true}
 use mathlib.Core.List.{List}
 use Rattle.atomicity.specs.History.{Fed, stepAt, Joined}
 

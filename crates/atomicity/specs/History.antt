@@ -1,11 +1,13 @@
 -- A list of steps from a start call: its machine, each step with whether it was accepted, and the reference model that was fed them.
 use Prim.Native.Nat.{ℕ}
 use mathlib.Core.Path.{_≡_}
-use mathlib.Core.Bool.{Bool, true, false}
+use mathlib.Core.Bool.{Bool, true, false, cond}
 use mathlib.Core.List.{List, [], _∷_}
-use mathlib.Core.Option.{Option, none, some}
-use lib.ListN.{getD, take}
+use mathlib.Core.Option.{some}
+use lib.ListN.{length, getD, take, replicate}
+use lib.Dec.{eqb}
 use Rattle.answer.specs.Answer.{isAccepted}
+use Rattle.cache.specs.Cache.{cellCount}
 use Rattle.machine.specs.Holds.{startOf}
 use Rattle.machine.specs.Runs.{Step, stepWith, after}
 use Rattle.machine.specs.declared.Machine.{Machine}
@@ -53,9 +55,9 @@ fedBook book (fed ∷ history) =
 abbrev pub startMachine : List ℕ → Machine
 startMachine words = startOf words .machine
 
--- the start cells of that machine
-abbrev pub startCells : List ℕ → List ℕ
-startCells words = startMachine words .cache .cached
+-- the start cells, from the start words alone: these words, and "start cells 0 where 21 refused it" ("21: start not 128 words")
+unfoldable pub startCells : List ℕ → List ℕ
+startCells words = cond (eqb (length words) cellCount) words (replicate cellCount 0)
 
 -- the machine after the steps
 abbrev pub machineAfter : List ℕ → List Step → Machine

@@ -1,7 +1,7 @@
 -- "The sum of all PRUNE answers plus the live entries equals the accepted LOG, ACQUIRE and LOGREL steps."
 use Prim.Native.Nat.{ℕ, _+_}
 use mathlib.Core.Path.{_≡_}
-use mathlib.Core.Bool.{Bool, cond, _&&_, _||_}
+use mathlib.Core.Bool.{cond, _&&_, _||_}
 use mathlib.Core.List.{List, [], _∷_, map}
 use lib.Dec.{eqb}
 use Rattle.answer.specs.Answer.{isAccepted, valueOf}

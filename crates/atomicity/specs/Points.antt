@@ -18,6 +18,9 @@ use Rattle.atomicity.specs.History.{startMachine, machineAfter}
 abbrev pub step : ℕ → ℕ → ℕ → ℕ → Step
 step kind thread place value = record { kind = kind; thread = thread; place = place; value = value }
 
+abbrev pub LOAD : ℕ → ℕ → Step
+LOAD thread cell = step 1 thread cell 0
+
 abbrev pub LOG : ℕ → ℕ → Step
 LOG thread cell = step 2 thread cell 0
 
@@ -48,6 +51,9 @@ PRUNE thread = step 10 thread 0 0
 abbrev pub EVICT : ℕ → Step
 EVICT line = step 11 0 line 0
 
+abbrev pub EVICTLOG : ℕ → ℕ → Step
+EVICTLOG thread slot = step 12 thread slot 0
+
 -- start cells that all differ, and from 0: cell c holds c + 100
 unfoldable pub numbered : List ℕ
 numbered = tab cellCount (λ cell. cell + 100)
@@ -65,11 +71,13 @@ unfoldable pub lastAnswered : List ℕ → List Step → Step → List ℕ
 lastAnswered words steps last =
     map numberOf (answers (machineAfter words steps) (last ∷ [])) ++ map valueOf (answers (machineAfter words steps) (last ∷ []))
 
--- the answer's number and the buffer after a recovery of an image
+-- the answer's number and the words of the buffer
+abbrev pub leaves : Outcome → List ℕ
+leaves found = numberOf (found .answer) ∷ found .buffer
+
+-- the same after a recovery of an image
 unfoldable pub outcome : List ℕ → List ℕ
-outcome image =
-    let found = recoverOf image lent in
-    numberOf (found .answer) ∷ found .buffer
+outcome image = leaves (recoverOf image lent)
 
 -- the same after a cut
 unfoldable pub recovered : List ℕ → List Step → List ℕ

@@ -7,9 +7,9 @@ use mathlib.Core.Logic.{_⊎_, _≢_}
 use mathlib.Core.Option.{Option, none, some}
 use lib.ListN.{length}
 use lib.Dec.{eqb}
+use Rattle.sizes.specs.Sizes.{threadCount, lockCount}
 use Rattle.cache.specs.Cache.{cellCount}
 use Rattle.machine.specs.Clocks.{loadRaces, logRaces}
-use Rattle.kinds.specs.Kinds.{threadCount, lockCount}
 use Rattle.machine.specs.Holds.{lockOf}
 use Rattle.machine.specs.Runs.{Step}
 use Rattle.reference.specs.Reference.{Book, emptyBook, joins, isCommittedAt}

@@ -11,8 +11,9 @@ use lib.ListN.{length, getD, set, drop, length-set, length-append, length-drop, 
 use lib.Seq.{set-out, getD-set-same, getD-set-other}
 use lib.Dec.{eqb}
 use borrow.Author.Tests.{lt-ltb, le-ltb, eq-eqb, ne-eqb}
+use Rattle.sizes.specs.Sizes.{threadCount}
 use Rattle.answer.proofs.ListLaws.{getD-set, getD-unset, getD-blank, length-setFrom, getD-setFrom, getD-clearFrom, setFrom-none, length-mixFrom, getD-mixFrom, mixFrom-none, partly}
-use Rattle.cache.specs.Cache.{cellCount, lineCount, threadCount, lineOf, pendingPlace, cachedAt, persistedAt, isDurable, isPending, cacheOf, storeOf, flushOf, fenceOf, evictOf, persistedInto}
+use Rattle.cache.specs.Cache.{cellCount, lineCount, lineOf, pendingPlace, cachedAt, persistedAt, isDurable, isPending, cacheOf, storeOf, flushOf, fenceOf, evictOf, persistedInto}
 use Rattle.cache.specs.declared.Cache.{Cache}
 use Rattle.cache.proofs.Lines.{copied, copied-starts, copied-turn, copied-done}
 

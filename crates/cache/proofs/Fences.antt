@@ -7,8 +7,9 @@ use mathlib.Core.List.{List}
 use lib.ListN.{length, getD, set}
 use lib.Dec.{eqb}
 use borrow.Author.Tests.{le-ltb, eq-eqb, ne-eqb}
+use Rattle.sizes.specs.Sizes.{threadCount}
 use Rattle.answer.proofs.ListLaws.{cond-same, getD-clearFrom, partly, length-partly, getD-partly, partly-start, partly-write, partly-keep, partly-done, partly-all}
-use Rattle.cache.specs.Cache.{cellCount, lineCount, threadCount, lineOf, pendingPlace, isPending, fenceOf}
+use Rattle.cache.specs.Cache.{cellCount, lineCount, lineOf, pendingPlace, isPending, fenceOf}
 use Rattle.cache.specs.declared.Cache.{Cache}
 use Rattle.cache.proofs.CacheLaws.{Sized, fenceOf-sized, fenceOf-persisted, fenceOf-durable}
 use Rattle.cache.proofs.Lines.{walk-turn, walk-skip, copied, copied-long, copied-inside, copied-outside, marked, marked-long, marked-inside, marked-outside}

@@ -7,9 +7,10 @@ use mathlib.Core.List.{List}
 use lib.ListN.{length, getD, set}
 use lib.Dec.{eqb}
 use borrow.Author.Tests.{eq-eqb, ne-eqb}
+use Rattle.sizes.specs.Sizes.{threadCount}
 use Rattle.answer.specs.Lists.{setFrom, mixFrom}
 use Rattle.answer.proofs.ListLaws.{length-setFrom, getD-setFrom, getD-setFrom-kept, getD-clearFrom, length-mixFrom, getD-mixFrom, partly, length-partly, partly-to, partly-start, partly-write, partly-keep, partly-done, partly-all}
-use Rattle.cache.specs.Cache.{lineCount, threadCount, lineOf}
+use Rattle.cache.specs.Cache.{lineCount, lineOf}
 
 -- ---- two lists that differ in the eight cells of a line alone
 module _ {A : Type 0} (new old : List A) (d : A) (line : ℕ) (long : length new ≡ length old) (outside : (cell : ℕ) → (lineOf cell ≡ line → ⊥) → getD new cell d ≡ getD old cell d) where

@@ -5,6 +5,7 @@ use mathlib.Core.Bool.{Bool, true, false, cond, _&&_}
 use mathlib.Core.List.{List, _++_}
 use lib.ListN.{length, getD, set, drop, replicate}
 use lib.Dec.{eqb, ltb}
+use Rattle.sizes.specs.Sizes.{threadCount}
 use Rattle.answer.specs.Lists.{setFrom, mixFrom}
 use Rattle.cache.specs.declared.Cache.{Cache}
 
@@ -14,9 +15,6 @@ cellCount = 128
 
 abbrev pub lineCount : ℕ
 lineCount = 16
-
-abbrev pub threadCount : ℕ
-threadCount = 4
 
 -- "cell c is in line c / 8, rounded down"
 abbrev pub lineOf : ℕ → ℕ

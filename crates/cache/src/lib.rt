@@ -4,20 +4,13 @@ ghost use mathlib.Core.Bool.{true, false};
 ghost use Prim.Native.Nat.{_*_, _%_, _<_};
 ghost use lib.ListN.{length};
 ghost use lib.Dec.{eqb};
+ghost use Rattle.sizes.specs.Sizes.{threadCount};
 ghost use Rattle.answer.specs.Lists.{setFrom, mixFrom};
-ghost use Rattle.cache.specs.Cache.{cellCount, lineCount, threadCount, lineOf, cacheOf, isDurable, storeOf, flushOf, fenceOf, evictOf, persistedInto};
-
-// The cells, of 64 bits each.
-const CELLS: usize = 128;
-
-// The lines that the cells stand in.
-const LINES: usize = 16;
-
-// The cells of a line.
-const LINE_CELLS: usize = 8;
-
-// The threads, each of which has flushes of its own.
-const THREADS: usize = 4;
+ghost use Rattle.cache.specs.Cache.{cellCount, lineCount, lineOf, cacheOf, isDurable, storeOf, flushOf, fenceOf, evictOf, persistedInto};
+use sizes::CELLS;
+use sizes::LINE_CELLS;
+use sizes::LINES;
+use sizes::THREADS;
 
 // What each cell holds, and which flushes a fence has yet to complete.
 pub struct Cache {

@@ -7,6 +7,7 @@ ghost use Rattle.machine.specs.Runs.{Reached};
 mod model;
 
 use machine::Machine;
+use step::step;
 
 // The steps of a generated listing.
 const STEPS: usize = 200;
@@ -131,7 +132,7 @@ fn run_alike(steps: &[u64]) -> bool {
         let thread = steps[at + 1];
         let place = steps[at + 2];
         let value = steps[at + 3];
-        let stepped = machine.step(kind, thread, place, value);
+        let stepped = step(machine, kind, thread, place, value);
         let answer = stepped.answer;
         machine = stepped.machine;
         let number = answer::number(answer);

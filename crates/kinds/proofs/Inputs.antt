@@ -9,13 +9,14 @@ use mathlib.Core.Bool.{Bool, true, false, not, _||_, or-false, true≢false}
 use mathlib.Core.Option.{Option, none, some}
 use lib.Dec.{eqb, ltb, leb}
 use borrow.Author.Tests.{lt-ltb, le-ltb, le-leb, lt-leb, ltb-true, eqb-true, ne-eqb, not-false}
+use Rattle.sizes.specs.Sizes.{threadCount, lockCount}
 use Rattle.answer.specs.Answer.{numberOf}
 use Rattle.answer.specs.Refusals.{firstRefusal}
 use Rattle.answer.specs.declared.Answer.the-variants.{Accepted, NoSuchKind}
 use Rattle.answer.proofs.RefusalLaws.{AllFail, AllRefuse, none-holds}
 use Rattle.cache.specs.Cache.{cellCount, lineCount}
 use Rattle.ring.specs.Ring.{slotCount}
-use Rattle.kinds.specs.Kinds.{threadCount, lockCount, Kind, Field, unused, fieldsOf, isOver, isLeftOver}
+use Rattle.kinds.specs.Kinds.{Kind, Field, unused, fieldsOf, isOver, isLeftOver}
 use Rattle.kinds.specs.Kinds.{kindOf, fieldTests, inputTests, inputAnswer}
 
 -- a place that is at least the bound is one that is not below it

@@ -4,18 +4,12 @@ use mathlib.Core.Bool.{Bool, false, cond, not, _||_}
 use mathlib.Core.List.{List, [], _∷_}
 use mathlib.Core.Option.{Option, none, some}
 use lib.Dec.{eqb, ltb}
+use Rattle.sizes.specs.Sizes.{threadCount, lockCount}
 use Rattle.answer.specs.Refusals.{Test, _⇒_, firstRefusal}
 use Rattle.answer.specs.declared.Answer.{Answer}
 use Rattle.answer.specs.declared.Answer.the-variants.{NoSuchKind, NoSuchThread, NoSuchPlace, UnusedField}
 use Rattle.cache.specs.Cache.{cellCount, lineCount}
 use Rattle.ring.specs.Ring.{slotCount}
-
--- "4 threads (0 to 3), 8 locks (0 to 7)"
-abbrev pub threadCount : ℕ
-threadCount = 4
-
-abbrev pub lockCount : ℕ
-lockCount = 8
 
 pub data Kind : Type 0 where
   LOAD LOG STORE ACQUIRE LOGREL RELEASE FLUSH FLUSHLOG FENCE PRUNE EVICT EVICTLOG : Kind
@@ -51,20 +45,20 @@ pub record Fields : Type 0 where
 abbrev pub fields : Field → Field → Field → Fields
 fields thread place value = record { thread = thread; place = place; value = value }
 
--- "Unused fields are 0: value in all but STORE, place in 8, 9 and 10, thread in 11."
+-- "Unused fields are 0: value in all but STORE, place in 8, 9 and 10, thread in 11." The thread of every kind has its bound from test 2.
 abbrev pub fieldsOf : Kind → Fields
-fieldsOf LOAD = fields (below threadCount) (below cellCount) unused
-fieldsOf LOG = fields (below threadCount) (below cellCount) unused
-fieldsOf STORE = fields (below threadCount) (below cellCount) free
-fieldsOf ACQUIRE = fields (below threadCount) (below lockCount) unused
-fieldsOf LOGREL = fields (below threadCount) (below lockCount) unused
-fieldsOf RELEASE = fields (below threadCount) (below lockCount) unused
-fieldsOf FLUSH = fields (below threadCount) (below lineCount) unused
-fieldsOf FLUSHLOG = fields (below threadCount) unused unused
-fieldsOf FENCE = fields (below threadCount) unused unused
-fieldsOf PRUNE = fields (below threadCount) unused unused
+fieldsOf LOAD = fields free (below cellCount) unused
+fieldsOf LOG = fields free (below cellCount) unused
+fieldsOf STORE = fields free (below cellCount) free
+fieldsOf ACQUIRE = fields free (below lockCount) unused
+fieldsOf LOGREL = fields free (below lockCount) unused
+fieldsOf RELEASE = fields free (below lockCount) unused
+fieldsOf FLUSH = fields free (below lineCount) unused
+fieldsOf FLUSHLOG = fields free unused unused
+fieldsOf FENCE = fields free unused unused
+fieldsOf PRUNE = fields free unused unused
 fieldsOf EVICT = fields unused (below lineCount) unused
-fieldsOf EVICTLOG = fields (below threadCount) (below slotCount) unused
+fieldsOf EVICTLOG = fields free (below slotCount) unused
 
 -- the field is used and out of range
 abbrev pub isOver : Field → ℕ → Bool

@@ -5,17 +5,36 @@ ghost use lib.Dec.{eqb};
 ghost use Rattle.answer.specs.Refusals.{firstRefusal};
 ghost use Rattle.kinds.specs.Kinds.{kindOf, fieldTests, inputAnswer};
 use answer::Answer;
+use sizes::words::CELLS;
+use sizes::words::LINES;
+use sizes::words::LOCKS;
+use sizes::words::SLOTS;
+use sizes::words::THREADS;
 
-// How many there are of what a place can name, and of threads.
-const THREADS: u64 = 4;
+// The kinds of step, by document 01's numbers.
+pub const LOAD: u64 = 1;
 
-const CELLS: u64 = 128;
+pub const LOG: u64 = 2;
 
-const LOCKS: u64 = 8;
+pub const STORE: u64 = 3;
 
-const LINES: u64 = 16;
+pub const ACQUIRE: u64 = 4;
 
-const SLOTS: u64 = 64;
+pub const LOGREL: u64 = 5;
+
+pub const RELEASE: u64 = 6;
+
+pub const FLUSH: u64 = 7;
+
+pub const FLUSHLOG: u64 = 8;
+
+pub const FENCE: u64 = 9;
+
+pub const PRUNE: u64 = 10;
+
+pub const EVICT: u64 = 11;
+
+pub const EVICTLOG: u64 = 12;
 
 // One of two fields is not 0.
 fn is_left(field: u64, other: u64) -> bool
@@ -49,13 +68,13 @@ pub fn input_answer(kind: u64, thread: u64, place: u64, value: u64) -> Answer
     ensures { λ r. ⌜ r ≡ inputAnswer (kindOf kind) thread place value ⌝ }
 {
     match kind {
-        1 | 2 => fields_answer(thread, CELLS <= place, value != 0),
-        3 => fields_answer(thread, CELLS <= place, false),
-        4 | 5 | 6 => fields_answer(thread, LOCKS <= place, value != 0),
-        7 => fields_answer(thread, LINES <= place, value != 0),
-        8 | 9 | 10 => fields_answer(thread, false, is_left(place, value)),
-        11 => fields_answer(thread, LINES <= place, is_left(thread, value)),
-        12 => fields_answer(thread, SLOTS <= place, value != 0),
+        LOAD | LOG => fields_answer(thread, CELLS <= place, value != 0),
+        STORE => fields_answer(thread, CELLS <= place, false),
+        ACQUIRE | LOGREL | RELEASE => fields_answer(thread, LOCKS <= place, value != 0),
+        FLUSH => fields_answer(thread, LINES <= place, value != 0),
+        FLUSHLOG | FENCE | PRUNE => fields_answer(thread, false, is_left(place, value)),
+        EVICT => fields_answer(thread, LINES <= place, is_left(thread, value)),
+        EVICTLOG => fields_answer(thread, SLOTS <= place, value != 0),
         _ => Answer::NoSuchKind,
     }
 }

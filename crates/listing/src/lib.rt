@@ -8,7 +8,10 @@ ghost use Rattle.machine.specs.Runs.{Reached};
 ghost use Rattle.listing.specs.Transcript.{recoveredCells, transcriptIn};
 use answer::Answer;
 use line::Line;
+use log::IMAGE_WORDS;
 use machine::Machine;
+use sizes::CELLS;
+use step::step;
 
 // Writes each of the cells that isn't 0, where there is room for them.
 fn write_cells(output: &mut [u8], place: usize, cells: &[u64]) -> usize
@@ -35,8 +38,8 @@ fn write_recovered(output: &mut [u8], place: usize, machine: Machine) -> usize
     ensures { λ r. ⌜ r ≡ place + length (cellsText 0 (recoveredCells machine)) ⌝ }
     ensures { λ _. ⌜ now (output .exit) ≡ written (now (output .entry)) place (cellsText 0 (recoveredCells machine)) ⌝ }
 {
-    let mut image = [0u64; 1156];
-    let mut cells = [0u64; 128];
+    let mut image = [0u64; IMAGE_WORDS];
+    let mut cells = [0u64; CELLS];
     machine.cut(&mut image);
     recovery::recover(&image, &mut cells);
     write_cells(output, place, &cells)
@@ -52,7 +55,7 @@ pub fn transcript(input: &[u8], output: &mut [u8]) -> usize
     if 65536 < input.len() {
         return print::write_result(output, 0, 1, Answer::Unreadable);
     }
-    let zeros = [0u64; 128];
+    let zeros = [0u64; CELLS];
     let started = Machine::start(&zeros);
     let mut machine = started.machine;
     let mut number: u64 = 1;
@@ -69,7 +72,7 @@ pub fn transcript(input: &[u8], output: &mut [u8]) -> usize
         else {
             return print::write_result(output, place, number, Answer::Unreadable);
         };
-        let stepped = machine.step(kind, thread, at, value);
+        let stepped = step(machine, kind, thread, at, value);
         let answer = stepped.answer;
         machine = stepped.machine;
         place = print::write_result(output, place, number, answer);

@@ -16,15 +16,13 @@ use log::Changed;
 use log::Log;
 use ring::Lsn;
 use ring::Tail;
+use sizes::LOCKS;
 use undo::Event;
 use undo::Region;
 use undo::SyncCount;
 use undo::enter;
 use undo::live_event;
 use undo::oldest;
-
-// The locks.
-const LOCKS: usize = 8;
 
 // The largest lock count that there is room for.
 const LARGEST: u64 = 18446744073709551615;

@@ -8,16 +8,28 @@ ghost use Rattle.log.specs.Stretch.{stretchOf, wordAt, presentOf};
 use answer::Answer;
 use ring::Lsn;
 use ring::Releasing;
-use ring::SLOTS;
 use ring::Tail;
 use ring::append_to;
 use ring::has_slot;
 use ring::slot_after;
+use sizes::SLOTS;
+use sizes::THREADS;
+use sizes::words;
 
-// The words of an entry in an image, and those of a log.
-const ENTRY_WORDS: usize = 4;
+// The words of an entry in an image, of which the last one tells its LSN, and those of a log.
+pub const ENTRY_WORDS: usize = 4;
 
-const STRETCH_WORDS: usize = 256;
+const LSN_WORD: usize = 3;
+
+pub const STRETCH_WORDS: usize = 256;
+
+// Where the heads stand in an image, and where the logs do.
+pub const HEADS_AT: usize = 128;
+
+pub const LOGS_AT: usize = 132;
+
+// The words of an image.
+pub const IMAGE_WORDS: usize = 1156;
 
 // What an entry says, beside its LSN.
 pub struct Payload {
@@ -37,8 +49,8 @@ pub struct Entry {
 
 // A thread's log: 64 slots, cached (document 01: seen) and persisted (kept), the head and the thread's record.
 pub struct Log {
-    pub cached: [Entry; 64],
-    pub persisted: [Entry; 64],
+    pub cached: [Entry; SLOTS],
+    pub persisted: [Entry; SLOTS],
     pub head: Lsn,
     pub tail: Tail,
 }
@@ -85,8 +97,8 @@ impl Log {
             flushed: Lsn(0),
             releasing: Releasing::Nothing,
         };
-        let cached = [zeros; 64];
-        let persisted = [zeros; 64];
+        let cached = [zeros; SLOTS];
+        let persisted = [zeros; SLOTS];
         Log {
             cached,
             persisted,
@@ -207,13 +219,13 @@ pub fn write_stretch(log: Log, part: &mut [u64])
 pub fn stretch(image: &[u64], thread: usize) -> &[u64]
     ensures { λ r. ⌜ now r ≡ stretchOf (now (image .entry)) thread ⌝ }
 {
-    if 3 < thread {
+    if THREADS <= thread {
         return &image[0..0];
     }
-    if image.len() != 1156 {
+    if image.len() != IMAGE_WORDS {
         return &image[0..0];
     }
-    let first = 132 + thread * STRETCH_WORDS;
+    let first = LOGS_AT + thread * STRETCH_WORDS;
     &image[first..first + STRETCH_WORDS]
 }
 
@@ -221,7 +233,7 @@ pub fn stretch(image: &[u64], thread: usize) -> &[u64]
 pub fn word(stretch: &[u64], number: u64, index: usize) -> u64
     ensures { λ r. ⌜ r ≡ wordAt (now (stretch .entry)) number index ⌝ }
 {
-    let first = (number % 64) as usize * ENTRY_WORDS;
+    let first = (number % words::SLOTS) as usize * ENTRY_WORDS;
     if stretch.len() <= first {
         return 0;
     }
@@ -238,10 +250,10 @@ pub fn present(stretch: &[u64], head: u64) -> usize
     let mut found = 0;
     let mut number = head;
     while found < SLOTS {
-        if 1000000 < number {
+        if words::LAST_LSN < number {
             return found;
         }
-        if word(stretch, number, 3) != number {
+        if word(stretch, number, LSN_WORD) != number {
             return found;
         }
         found += 1;

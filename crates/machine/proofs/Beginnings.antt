@@ -9,6 +9,7 @@ use mathlib.Core.Logic.{by-cases}
 use lib.Dec.{eqb}
 use lib.ListN.{length, getD, replicate, getD-replicate, List·getD-eq-default}
 use borrow.Author.Tests.{eqb-true}
+use Rattle.sizes.specs.Sizes.{threadCount, lockCount}
 use Rattle.answer.specs.declared.Answer.the-variants.{Accepted, WrongLength}
 use Rattle.answer.proofs.ListLaws.{getD-blank}
 use Rattle.cache.specs.Cache.{cellCount, cacheOf}
@@ -16,7 +17,6 @@ use Rattle.ring.specs.declared.Releasing.the-variants.{Nothing}
 use Rattle.log.specs.Entries.{freshLog}
 use Rattle.log.specs.declared.Log.{Log}
 use Rattle.log.proofs.Idle.{Idle, fresh-idle}
-use Rattle.kinds.specs.Kinds.{threadCount, lockCount}
 use Rattle.machine.specs.Holds.{noLog, lockOf, freshMachine, startOf}
 use Rattle.locks.specs.Locks.{noLock}
 use Rattle.accesses.specs.Clocks.{noClock, startClocks}

@@ -32,7 +32,7 @@ use Rattle.machine.specs.Runs.{Step, after, Reached}
 use Rattle.accesses.specs.declared.Clock.{Clock}
 use Rattle.locks.specs.declared.Lock.{Lock as LockState}
 use Rattle.machine.specs.declared.Machine.{Machine}
-use Rattle.machine.proofs.Asked.{log-asked, acquire-asked, log-release-asked, release-asked, flush-log-asked, fence-asked, prune-asked, evict-log-asked}
+use Rattle.machine.proofs.AcceptedMeans.{log-asked, acquire-asked, log-release-asked, release-asked, flush-log-asked, fence-asked, prune-asked, evict-log-asked}
 use Rattle.machine.proofs.Beginnings.{machineWith, AllIdle, each-log, releases-nothing, lock-free, freshLogs, fresh-all, on-start}
 use Rattle.accesses.proofs.ClockLaws.{clockAt-join, clockAt-raised-other, clockAt-raised-own, clockAt-none, start-raised}
 use Rattle.machine.proofs.Sizes.{Sized, effect-sized, begin-sized}

@@ -8,6 +8,7 @@ use mathlib.Core.List.{List, _++_, append-nil}
 use lib.ListN.{length, getD, set, take, drop, length-set, length-append, length-take, length-drop, drop-of-length-le, List·getD-append}
 use lib.Seq.{ext-getD, take-all, length-take-le, getD-append-add, getD-take, getD-drop, getD-set-same, getD-set-other}
 use borrow.Author.Tests.{le-ltb, lt-ltb, eq-eqb}
+use Rattle.sizes.specs.Sizes.{threadCount}
 use Rattle.cache.specs.Cache.{cellCount, persistedInto}
 use Rattle.cache.proofs.CacheLaws.{persistedInto-long}
 use Rattle.ring.specs.Ring.{slotCount}
@@ -17,7 +18,6 @@ use Rattle.log.specs.declared.Log.{Log}
 use Rattle.log.proofs.StretchLaws.{Reads}
 use Rattle.log.proofs.SlotLaws.{length-words}
 use Rattle.log.proofs.ImageLaws.{logs-read}
-use Rattle.kinds.specs.Kinds.{threadCount}
 use Rattle.machine.specs.Holds.{noLog, logOf}
 use Rattle.machine.specs.Image.{imageOf, logInto}
 use Rattle.machine.specs.Runs.{Reached}
@@ -92,14 +92,14 @@ module _ (machine : Machine) (reached : Reached machine) (cells : length (machin
   words : (thread : ℕ) → thread < threadCount → length (wordsOf (logOf machine thread .persisted)) ≡ stretchWords
   words thread inThread = length-words (logOf machine thread .persisted) ∙ ap (λ count. count * entryWords) (slots thread inThread)
 
-  reads : Reads (imageOf machine) (machine .cache .persisted) (λ thread. logOf machine thread .head .0) (λ thread. wordsOf (logOf machine thread .persisted))
+  pub reads : Reads (imageOf machine) (machine .cache .persisted) (λ thread. logOf machine thread .head .0) (λ thread. wordsOf (logOf machine thread .persisted))
   unfolding imageOf
   reads = logs-read (machine .cache .persisted) (machine .logs) noLog cells (all-logs machine (reached-stretched machine reached)) slots
 
-  cell-at : (place : ℕ) → place < headsAt → getD (imageOf machine) place 0 ≡ getD (machine .cache .persisted) place 0
+  pub cell-at : (place : ℕ) → place < headsAt → getD (imageOf machine) place 0 ≡ getD (machine .cache .persisted) place 0
   cell-at place below = sym (getD-take headsAt (imageOf machine) place 0 below) ∙ ap (λ (front : List ℕ). getD front place 0) (reads .cellsAre)
 
-  word-at : (thread : ℕ) → thread < threadCount → (index : ℕ) → index < stretchWords
+  pub word-at : (thread : ℕ) → thread < threadCount → (index : ℕ) → index < stretchWords
       → getD (imageOf machine) (stretchAt thread + index) 0 ≡ getD (wordsOf (logOf machine thread .persisted)) index 0
   unfolding stretchOf
   word-at thread inThread index below =

@@ -5,7 +5,7 @@ pub mod Beginnings
 pub mod Sizes
 pub mod Stretches
 pub mod ImageWritten
-pub mod Asked
+pub mod AcceptedMeans
 pub mod Counts
 pub mod Reaching
 pub mod PartSteps

@@ -10,19 +10,14 @@ use Rattle.machine.specs.declared.Machine.{Machine}
 abbrev pub stampNow : Machine → ℕ → ℕ
 stampNow machine thread = clockAt (clockOf machine thread) thread
 
--- the access with this stamp, by this other thread, happens before the next step of the thread
-abbrev pub isBefore : Machine → ℕ → ℕ → ℕ → Bool
-isBefore machine stamp other thread = isKnown (clockOf machine thread) stamp other
-
 -- 8 for a LOAD: the cell's last LOG does not happen before it. (Accepted LOGs of a cell are in order, so the last one decides.)
 unfoldable pub loadRaces : Machine → ℕ → ℕ → Bool
 loadRaces machine thread cell =
     not
-    (isBefore
-    machine
+    (isKnown
+    (clockOf machine thread)
     (getD (machine .accesses .logged) cell 0)
-    (getD (machine .accesses .loggers) cell 0)
-    thread)
+    (getD (machine .accesses .loggers) cell 0))
 
 -- 8 for a LOG: some thread's last access of the cell does not happen before it
 unfoldable pub logRaces : Machine → ℕ → ℕ → Bool

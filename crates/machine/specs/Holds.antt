@@ -4,6 +4,7 @@ use mathlib.Core.Bool.{cond}
 use mathlib.Core.List.{List, []}
 use lib.ListN.{length, getD, set, replicate}
 use lib.Dec.{eqb}
+use Rattle.sizes.specs.Sizes.{threadCount, lockCount}
 use Rattle.answer.specs.declared.Answer.the-variants.{Accepted, WrongLength}
 use Rattle.cache.specs.Cache.{cellCount, cacheOf}
 use Rattle.cache.specs.declared.Cache.{Cache}
@@ -14,7 +15,6 @@ use Rattle.ring.specs.declared.Releasing.the-variants.{Nothing}
 use Rattle.accesses.specs.declared.Accesses.{Accesses}
 use Rattle.accesses.specs.declared.Clock.{Clock}
 use Rattle.locks.specs.declared.Lock.{Lock}
-use Rattle.kinds.specs.Kinds.{threadCount, lockCount}
 use Rattle.accesses.specs.Clocks.{noClock, startClocks}
 use Rattle.locks.specs.Locks.{noLock}
 use Rattle.machine.specs.declared.Machine.{Machine}

@@ -2,8 +2,8 @@
 ghost use mathlib.Core.Path.{_≡_};
 ghost use Prim.Native.Nat.{_<_};
 ghost use lib.ListN.{length};
+ghost use Rattle.sizes.specs.Sizes.{threadCount};
 ghost use Rattle.cache.specs.Cache.{cellCount};
-ghost use Rattle.kinds.specs.Kinds.{threadCount};
 ghost use Rattle.log.specs.Stretch.{imageWords};
 ghost use Rattle.machine.specs.Holds.{freshMachine, startOf};
 ghost use Rattle.machine.specs.Image.{logInto, cutOf};
@@ -11,25 +11,45 @@ ghost use Rattle.machine.specs.Runs.{Reached};
 ghost use Rattle.machine.specs.Steps.{stepOf};
 use accesses::Accesses;
 use accesses::Clock;
+use accesses::STAMPS;
 use accesses::log_cell;
 use answer::Answer;
 use cache::Cache;
+use kinds::ACQUIRE;
+use kinds::EVICT;
+use kinds::EVICTLOG;
+use kinds::FENCE;
+use kinds::FLUSH;
+use kinds::FLUSHLOG;
+use kinds::LOAD;
+use kinds::LOG;
+use kinds::LOGREL;
+use kinds::PRUNE;
+use kinds::RELEASE;
+use kinds::STORE;
 use kinds::input_answer;
 use locks::Holder;
 use locks::Lock;
+use log::HEADS_AT;
+use log::IMAGE_WORDS;
+use log::LOGS_AT;
 use log::Log;
+use log::STRETCH_WORDS;
 use log::write_stretch;
+use sizes::CELLS;
+use sizes::LOCKS;
+use sizes::THREADS;
 use undo::SyncCount;
 use undo::store_answer;
 
 // Fields are private, so that machine values come only from the start call and from steps.
 pub struct Machine {
     cache: Cache,
-    logs: [Log; 4],
-    clocks: [Clock; 4],
+    logs: [Log; THREADS],
+    clocks: [Clock; THREADS],
     // Each lock's clock is that of its last RELEASE.
-    lock_clocks: [Clock; 8],
-    locks: [Lock; 8],
+    lock_clocks: [Clock; LOCKS],
+    locks: [Lock; LOCKS],
     accesses: Accesses,
 }
 
@@ -40,13 +60,13 @@ pub struct Stepped {
 }
 
 // The words of a start call as cells.
-fn start_cells(words: &[u64]) -> [u64; 128]
+fn start_cells(words: &[u64]) -> [u64; CELLS]
     requires { ⌜ length (now words) ≡ cellCount ⌝ }
     ensures { λ r. ⌜ r ≡ now (words .entry) ⌝ }
 {
-    let mut cells = [0u64; 128];
+    let mut cells = [0u64; CELLS];
     let mut cell = 0;
-    while cell < 128 {
+    while cell < CELLS {
         cells[cell] = words[cell];
         cell += 1;
     }
@@ -59,14 +79,14 @@ fn write_log(log: Log, thread: usize, image: &mut [u64])
     ensures { λ _. ⌜ now (image .exit) ≡ logInto log thread (now (image .entry)) ⌝ }
 {
     let head = log.head;
-    image[128 + thread] = head.0 as u64;
-    let at = 132 + thread * 256;
+    image[HEADS_AT + thread] = head.0 as u64;
+    let at = LOGS_AT + thread * STRETCH_WORDS;
     write_stretch(log, &mut image[at..]);
 }
 
 impl Machine {
     // The machine at the start, with these cells: nothing logged, nothing held, nothing accessed. A thread's own number is 1.
-    fn fresh(cells: [u64; 128]) -> Machine
+    fn fresh(cells: [u64; CELLS]) -> Machine
         ensures { λ r. ⌜ r ≡ freshMachine cells ⌝ }
     {
         let cache = Cache::new(cells);
@@ -87,16 +107,16 @@ impl Machine {
         let own2 = unknown.raise(2);
         let own3 = unknown.raise(3);
         let accesses = Accesses {
-            stamps: [0; 512],
-            logged: [0; 128],
-            loggers: [0; 128],
+            stamps: [0; STAMPS],
+            logged: [0; CELLS],
+            loggers: [0; CELLS],
         };
         Machine {
             cache,
-            logs: [log; 4],
+            logs: [log; THREADS],
             clocks: [own0, own1, own2, own3],
-            lock_clocks: [unknown; 8],
-            locks: [free; 8],
+            lock_clocks: [unknown; LOCKS],
+            locks: [free; LOCKS],
             accesses,
         }
     }
@@ -105,8 +125,8 @@ impl Machine {
     pub fn start(words: &[u64]) -> Stepped
         ensures { λ r. ⌜ r ≡ startOf (now (words .entry)) ⌝ }
     {
-        if words.len() != 128 {
-            let zeros = [0u64; 128];
+        if words.len() != CELLS {
+            let zeros = [0u64; CELLS];
             let machine = Machine::fresh(zeros);
             return Stepped {
                 answer: Answer::WrongLength,
@@ -126,7 +146,7 @@ impl Machine {
         requires { ⌜ Reached self ⌝ }
         ensures { λ r. ⌜ r ≡ stepOf self 1 thread cell 0 ⌝ }
     {
-        let mut answer = input_answer(1, thread, cell, 0);
+        let mut answer = input_answer(LOAD, thread, cell, 0);
         if answer::number(answer) == 0 {
             let clock = self.clocks[thread as usize];
             let cache = self.cache;
@@ -151,7 +171,7 @@ impl Machine {
         requires { ⌜ Reached self ⌝ }
         ensures { λ r. ⌜ r ≡ stepOf self 2 thread cell 0 ⌝ }
     {
-        let mut answer = input_answer(2, thread, cell, 0);
+        let mut answer = input_answer(LOG, thread, cell, 0);
         if answer::number(answer) == 0 {
             let at = thread as usize;
             let log = self.logs[at];
@@ -180,7 +200,7 @@ impl Machine {
         requires { ⌜ Reached self ⌝ }
         ensures { λ r. ⌜ r ≡ stepOf self 3 thread cell value ⌝ }
     {
-        let mut answer = input_answer(3, thread, cell, value);
+        let mut answer = input_answer(STORE, thread, cell, value);
         if answer::number(answer) == 0 {
             let log = self.logs[thread as usize];
             answer = store_answer(log, cell as usize);
@@ -201,7 +221,7 @@ impl Machine {
         requires { ⌜ Reached self ⌝ }
         ensures { λ r. ⌜ r ≡ stepOf self 4 thread lock 0 ⌝ }
     {
-        let mut answer = input_answer(4, thread, lock, 0);
+        let mut answer = input_answer(ACQUIRE, thread, lock, 0);
         if answer::number(answer) == 0 {
             let at = thread as usize;
             let to = lock as usize;
@@ -231,7 +251,7 @@ impl Machine {
         requires { ⌜ Reached self ⌝ }
         ensures { λ r. ⌜ r ≡ stepOf self 5 thread lock 0 ⌝ }
     {
-        let mut answer = input_answer(5, thread, lock, 0);
+        let mut answer = input_answer(LOGREL, thread, lock, 0);
         if answer::number(answer) == 0 {
             let at = thread as usize;
             let log = self.logs[at];
@@ -254,7 +274,7 @@ impl Machine {
         requires { ⌜ Reached self ⌝ }
         ensures { λ r. ⌜ r ≡ stepOf self 6 thread lock 0 ⌝ }
     {
-        let mut answer = input_answer(6, thread, lock, 0);
+        let mut answer = input_answer(RELEASE, thread, lock, 0);
         if answer::number(answer) == 0 {
             let at = thread as usize;
             let to = lock as usize;
@@ -284,7 +304,7 @@ impl Machine {
         requires { ⌜ Reached self ⌝ }
         ensures { λ r. ⌜ r ≡ stepOf self 7 thread line 0 ⌝ }
     {
-        let mut answer = input_answer(7, thread, line, 0);
+        let mut answer = input_answer(FLUSH, thread, line, 0);
         if answer::number(answer) == 0 {
             let cache = self.cache;
             let flushed = cache.flush(thread as usize, line as usize);
@@ -301,7 +321,7 @@ impl Machine {
         requires { ⌜ Reached self ⌝ }
         ensures { λ r. ⌜ r ≡ stepOf self 8 thread 0 0 ⌝ }
     {
-        let mut answer = input_answer(8, thread, 0, 0);
+        let mut answer = input_answer(FLUSHLOG, thread, 0, 0);
         if answer::number(answer) == 0 {
             let at = thread as usize;
             let log = self.logs[at];
@@ -319,7 +339,7 @@ impl Machine {
         requires { ⌜ Reached self ⌝ }
         ensures { λ r. ⌜ r ≡ stepOf self 9 thread 0 0 ⌝ }
     {
-        let mut answer = input_answer(9, thread, 0, 0);
+        let mut answer = input_answer(FENCE, thread, 0, 0);
         if answer::number(answer) == 0 {
             let at = thread as usize;
             let cache = self.cache;
@@ -340,7 +360,7 @@ impl Machine {
         requires { ⌜ Reached self ⌝ }
         ensures { λ r. ⌜ r ≡ stepOf self 10 thread 0 0 ⌝ }
     {
-        let mut answer = input_answer(10, thread, 0, 0);
+        let mut answer = input_answer(PRUNE, thread, 0, 0);
         if answer::number(answer) == 0 {
             let at = thread as usize;
             let cache = self.cache;
@@ -366,7 +386,7 @@ impl Machine {
         requires { ⌜ Reached self ⌝ }
         ensures { λ r. ⌜ r ≡ stepOf self 11 0 line 0 ⌝ }
     {
-        let mut answer = input_answer(11, 0, line, 0);
+        let mut answer = input_answer(EVICT, 0, line, 0);
         if answer::number(answer) == 0 {
             let cache = self.cache;
             let evicted = cache.evict(line as usize);
@@ -383,7 +403,7 @@ impl Machine {
         requires { ⌜ Reached self ⌝ }
         ensures { λ r. ⌜ r ≡ stepOf self 12 thread slot 0 ⌝ }
     {
-        let mut answer = input_answer(12, thread, slot, 0);
+        let mut answer = input_answer(EVICTLOG, thread, slot, 0);
         if answer::number(answer) == 0 {
             let at = thread as usize;
             let log = self.logs[at];
@@ -400,45 +420,18 @@ impl Machine {
         }
     }
 
-    // A step of any kind, with any four words: the input's tests, then the method of its kind.
-    pub fn step(self, kind: u64, thread: u64, place: u64, value: u64) -> Stepped
-        requires { ⌜ Reached self ⌝ }
-        ensures { λ r. ⌜ r ≡ stepOf self kind thread place value ⌝ }
-    {
-        let answer = input_answer(kind, thread, place, value);
-        let known = if answer::number(answer) == 0 { kind } else { 0 };
-        match known {
-            1 => self.load(thread, place),
-            2 => self.log(thread, place),
-            3 => self.store(thread, place, value),
-            4 => self.acquire(thread, place),
-            5 => self.log_release(thread, place),
-            6 => self.release(thread, place),
-            7 => self.flush(thread, place),
-            8 => self.flush_log(thread),
-            9 => self.fence(thread),
-            10 => self.prune(thread),
-            11 => self.evict(place),
-            12 => self.evict_log(thread, place),
-            _ => Stepped {
-                answer,
-                machine: self,
-            },
-        }
-    }
-
     // The cut: each cell, head and slot's persisted content, or 21 where the lent image is not of 1,156 words, which leaves it as it was.
     pub fn cut(self, image: &mut [u64]) -> Answer
         requires { ⌜ Reached self ⌝ }
         ensures { λ r. ⌜ record { answer = r; buffer = now (image .exit) } ≡ cutOf self (now (image .entry)) ⌝ }
     {
-        if image.len() != 1156 {
+        if image.len() != IMAGE_WORDS {
             return Answer::WrongLength;
         }
         let cache = self.cache;
         cache.persist_into(image);
         let mut thread = 0;
-        while thread < 4 {
+        while thread < THREADS {
             let log = self.logs[thread];
             write_log(log, thread, image);
             thread += 1;

@@ -1,35 +1,86 @@
-// Runs document 01's corner points P1 to P11 on the code, and says of each whether it gives what document 01 asks.
+// Runs document 01's corner points P1 to P11 on the code, each under that document's words, and says whether it gives what they ask.
 ghost use mathlib.Core.Path.{_≡_};
 ghost use lib.ListN.{length};
 
-// Start cells that all differ: cell c holds c + 100.
-fn numbered() -> [u64; 128]
+mod image;
+
+use image::Image;
+use kinds::ACQUIRE;
+use kinds::EVICT;
+use kinds::FENCE;
+use kinds::FLUSH;
+use kinds::FLUSHLOG;
+use kinds::LOG;
+use kinds::LOGREL;
+use kinds::PRUNE;
+use kinds::RELEASE;
+use kinds::STORE;
+use sizes::CELLS;
+
+// What no cell holds: a buffer for recovered cells is lent full of it.
+const LENT: u64 = 99;
+
+// The words of a step.
+const STEP_WORDS: usize = 4;
+
+// Room for the words of 21 steps. No point has more.
+const ROOM: usize = 84;
+
+// A list of steps: their words one after another, and how many words these are.
+struct Steps {
+    words: [u64; ROOM],
+    used: usize,
+}
+
+impl Steps {
+    // No steps.
+    fn none() -> Steps {
+        Steps {
+            words: [0; ROOM],
+            used: 0,
+        }
+    }
+
+    // The list with a step more, where there is room for it.
+    fn then(self, kind: u64, thread: u64, place: u64, value: u64) -> Steps {
+        let used = self.used;
+        if used > ROOM - STEP_WORDS {
+            return self;
+        }
+        let mut words = self.words;
+        words[used] = kind;
+        words[used + 1] = thread;
+        words[used + 2] = place;
+        words[used + 3] = value;
+        Steps {
+            words,
+            used: used + STEP_WORDS,
+        }
+    }
+}
+
+// The start cells of every point: they all differ, and from 0. "Cell 9 is 3", as P7 to P9 want it, and each other cell c holds c + 100.
+fn start_cells() -> [u64; CELLS]
     ensures { λ r. ⌜ 128 ≡ length r ⌝ }
 {
-    let mut cells = [0u64; 128];
+    let mut cells = [0; CELLS];
     let mut cell: usize = 0;
-    while cell < 128 {
+    while cell < CELLS {
         cells[cell] = cell as u64 + 100;
         cell += 1;
     }
-    cells
-}
-
-// The same with 3 in cell 9.
-fn nine() -> [u64; 128]
-    ensures { λ r. ⌜ 128 ≡ length r ⌝ }
-{
-    let mut cells = numbered();
     cells[9] = 3;
     cells
 }
 
-// The same with 4 in cell 9.
-fn nine_made_4() -> [u64; 128]
+// The start cells with this word in one of them.
+fn start_cells_but(cell: usize, word: u64) -> [u64; CELLS]
     ensures { λ r. ⌜ 128 ≡ length r ⌝ }
 {
-    let mut cells = numbered();
-    cells[9] = 4;
+    let mut cells = start_cells();
+    if cell < CELLS {
+        cells[cell] = word;
+    }
     cells
 }
 
@@ -56,76 +107,161 @@ fn at(words: &[u64], place: usize) -> u64 {
     0
 }
 
-// The number of the last step's answer.
-fn answered(start: &[u64], steps: &[u64]) -> u64 {
-    let stepped = replay::run(start, steps);
-    let answer = stepped.answer;
-    answer::number(answer)
+// The first so many words, or all where there are fewer.
+fn first(words: &[u64], count: usize) -> &[u64] {
+    if count < words.len() {
+        return &words[0..count];
+    }
+    words
 }
 
-// The number that the last step gives.
-fn given(start: &[u64], steps: &[u64]) -> u64 {
-    let stepped = replay::run(start, steps);
-    let answer = stepped.answer;
-    answer::value(answer)
+// The last step has this answer, and this number beside it.
+fn answers(steps: Steps, answer: u64, number: u64) -> bool {
+    let start = start_cells();
+    let words = steps.words;
+    let stepped = replay::run(&start, first(&words, steps.used));
+    let last = stepped.answer;
+    if answer::number(last) != answer {
+        return false;
+    }
+    answer::value(last) == number
 }
 
-// A cut after the steps has this word for the cell in its image.
-fn images(start: &[u64], steps: &[u64], cell: usize, word: u64) -> bool {
-    let mut image = [0u64; 1156];
-    let mut cells = [99u64; 128];
+// A cut after the steps has this word for the cell in its image, and recovers the wanted cells.
+fn leaves(start: &[u64], steps: &[u64], cell: usize, imaged: u64, wanted: &[u64]) -> bool {
+    let mut image = [0; log::IMAGE_WORDS];
+    let mut cells = [LENT; CELLS];
     let answer = replay::replay(start, steps, &mut image, &mut cells);
     if answer::number(answer) != 0 {
         return false;
     }
-    at(&image, cell) == word
-}
-
-// A cut after the steps recovers these cells.
-fn recovers(start: &[u64], steps: &[u64], wanted: &[u64]) -> bool {
-    let mut image = [0u64; 1156];
-    let mut cells = [99u64; 128];
-    let answer = replay::replay(start, steps, &mut image, &mut cells);
-    if answer::number(answer) != 0 {
+    if at(&image, cell) != imaged {
         return false;
     }
     same(&cells, wanted)
 }
 
-// Recovery refuses the image with this number, and leaves the lent buffer as it was.
-fn refuses(image: &[u64], number: u64) -> bool {
-    let lent = [99u64; 128];
-    let mut cells = [99u64; 128];
-    let answer = recovery::recover(image, &mut cells);
-    if answer::number(answer) != number {
+// A cut after the steps has one word for the cell in its image, and recovers another for it: every other cell is its start cell.
+fn cut(steps: Steps, cell: usize, imaged: u64, recovered: u64) -> bool {
+    let start = start_cells();
+    let wanted = start_cells_but(cell, recovered);
+    let words = steps.words;
+    leaves(&start, first(&words, steps.used), cell, imaged, &wanted)
+}
+
+// Recovery refuses the image with this answer, and leaves the lent buffer as it was.
+fn refuses(image: &[u64], answer: u64) -> bool {
+    let lent = [LENT; CELLS];
+    let mut cells = [LENT; CELLS];
+    let refusal = recovery::recover(image, &mut cells);
+    if answer::number(refusal) != answer {
         return false;
     }
     same(&cells, &lent)
 }
 
-// P10: thread 0's log has ACQUIRE lock 0 count 1, RELEASE lock 1 count 0; thread 1's has ACQUIRE lock 1 count 1, RELEASE lock 0 count 0.
-fn p10() -> [u64; 1156]
-    ensures { λ r. ⌜ 1156 ≡ length r ⌝ }
-{
-    let mut image = [0u64; 1156];
-    image[128] = 1;
-    image[129] = 1;
-    image[130] = 1;
-    image[131] = 1;
-    // LSN 1 is in slot 1 and LSN 2 in slot 2: words kind, place, value, LSN
-    image[136] = 2;
-    image[138] = 1;
-    image[139] = 1;
-    image[140] = 3;
-    image[141] = 1;
-    image[143] = 2;
-    image[392] = 2;
-    image[393] = 1;
-    image[394] = 1;
-    image[395] = 1;
-    image[396] = 3;
-    image[399] = 2;
-    image
+// P1 "cut at the start: start cells"
+fn point_1() -> bool {
+    cut(Steps::none(), 5, 105, 105)
+}
+
+// P2 "STORE, no LOG: 10"
+fn point_2() -> bool {
+    let steps = Steps::none().then(STORE, 0, 5, 7);
+    answers(steps, 10, 0)
+}
+
+// P3 "LOG, STORE: 11"
+fn point_3() -> bool {
+    let steps = Steps::none().then(LOG, 0, 5, 0).then(STORE, 0, 5, 7);
+    answers(steps, 11, 0)
+}
+
+// "LOG cell 5, FLUSHLOG, FENCE"
+fn logged_5() -> Steps {
+    Steps::none()
+        .then(LOG, 0, 5, 0)
+        .then(FLUSHLOG, 0, 0, 0)
+        .then(FENCE, 0, 0, 0)
+}
+
+// P4 "LOG cell 5, FLUSHLOG, FENCE, STORE 7 to it, EVICT line 0, cut: recovers the old content"; the image has the new content
+fn point_4() -> bool {
+    let steps = logged_5().then(STORE, 0, 5, 7).then(EVICT, 0, 0, 0);
+    cut(steps, 5, 7, 105)
+}
+
+// P5 "as P4 but FLUSH line 0 just before the STORE and FENCE instead of EVICT: the image has the old content"
+fn point_5() -> bool {
+    let steps = logged_5()
+        .then(FLUSH, 0, 0, 0)
+        .then(STORE, 0, 5, 7)
+        .then(FENCE, 0, 0, 0);
+    cut(steps, 5, 105, 105)
+}
+
+// P6 "threads 0 and 1 LOG cell 9, no lock: 8"
+fn point_6() -> bool {
+    let steps = Steps::none().then(LOG, 0, 9, 0).then(LOG, 1, 9, 0);
+    answers(steps, 8, 0)
+}
+
+// The thread then writes cell 9 under lock 0. Each entry is flushed and fenced before the STORE, or the RELEASE, that needs it.
+fn makes(steps: Steps, thread: u64, value: u64) -> Steps {
+    let logged = steps.then(ACQUIRE, thread, 0, 0).then(LOG, thread, 9, 0);
+    let stored = logged
+        .then(FLUSHLOG, thread, 0, 0)
+        .then(FENCE, thread, 0, 0)
+        .then(STORE, thread, 9, value);
+    let closing = stored
+        .then(LOGREL, thread, 0, 0)
+        .then(FLUSHLOG, thread, 0, 0)
+        .then(FENCE, thread, 0, 0);
+    closing.then(RELEASE, thread, 0, 0)
+}
+
+// "cell 9 is 3; thread 0 makes it 4, then thread 1 makes it 5, each under lock 0, released"
+fn both() -> Steps {
+    makes(makes(Steps::none(), 0, 4), 1, 5)
+}
+
+// P7 "PRUNE 1 first: 16"
+fn point_7() -> bool {
+    let steps = both().then(PRUNE, 1, 0, 0);
+    answers(steps, 16, 0)
+}
+
+// P8 "none pruned, line evicted: recovers 3"; the image has 5
+fn point_8() -> bool {
+    let steps = both().then(EVICT, 0, 1, 0);
+    cut(steps, 9, 5, 3)
+}
+
+// P9 "lines flushed and fenced, thread 0 pruned: 4"; the PRUNE frees three entries, and the image has 5
+fn point_9() -> bool {
+    let flushed = both().then(FLUSH, 0, 1, 0).then(FENCE, 0, 0, 0);
+    let steps = flushed.then(PRUNE, 0, 0, 0);
+    if answers(steps, 0, 3) {
+        return cut(steps, 9, 5, 4);
+    }
+    false
+}
+
+// P10 "thread 0's log: ACQUIRE lock 0 count 1, RELEASE lock 1 count 0; thread 1's: ACQUIRE lock 1 count 1, RELEASE lock 0 count 0: 24"
+fn point_10() -> bool {
+    let half = Image::empty()
+        .with_entry(0, image::ACQUIRE, 0, 1, 1)
+        .with_entry(0, image::RELEASE, 1, 0, 2);
+    let whole = half.with_entry(1, image::ACQUIRE, 1, 1, 1)
+        .with_entry(1, image::RELEASE, 0, 0, 2);
+    let words = whole.words;
+    refuses(&words, 24)
+}
+
+// P11 "image of 1,155 words: 21"
+fn point_11() -> bool {
+    let words = [0; 1155];
+    refuses(&words, 21)
 }
 
 // Says whether a point agrees.
@@ -138,366 +274,7 @@ fn report(point: &[u8], agrees: bool) {
     }
 }
 
-// P1: cut at the start. Three words are a step cut short, which is none.
-fn point_1() -> bool {
-    let start = numbered();
-    let steps = [1u64; 3];
-    recovers(&start, &steps, &start)
-}
-
-// P2: STORE, no LOG.
-fn point_2() -> bool {
-    let start = numbered();
-    let steps = [3, 0, 5, 7];
-    answered(&start, &steps) == 10
-}
-
-// P3: LOG, STORE.
-fn point_3() -> bool {
-    let start = numbered();
-    let steps = [2, 0, 5, 0, 3, 0, 5, 7];
-    answered(&start, &steps) == 11
-}
-
-// P4: LOG cell 5, FLUSHLOG, FENCE, STORE 7 to it, EVICT line 0. The image has the new content, and recovery finds the old one.
-fn point_4() -> bool {
-    let start = numbered();
-    let steps = [2, 0, 5, 0, 8, 0, 0, 0, 9, 0, 0, 0, 3, 0, 5, 7, 11, 0, 0, 0];
-    if images(&start, &steps, 5, 7) {
-        return recovers(&start, &steps, &start);
-    }
-    false
-}
-
-// P5: as P4 but FLUSH line 0 just before the STORE and FENCE instead of EVICT. The image has the old content.
-fn point_5() -> bool {
-    let start = numbered();
-    let steps = [
-        2u64,
-        0,
-        5,
-        0,
-        8,
-        0,
-        0,
-        0,
-        9,
-        0,
-        0,
-        0,
-        7,
-        0,
-        0,
-        0,
-        3,
-        0,
-        5,
-        7,
-        9,
-        0,
-        0,
-        0,
-    ];
-    images(&start, &steps, 5, 105)
-}
-
-// P6: threads 0 and 1 LOG cell 9, no lock.
-fn point_6() -> bool {
-    let start = numbered();
-    let steps = [2, 0, 9, 0, 2, 1, 9, 0];
-    answered(&start, &steps) == 8
-}
-
-// The steps of P7.
-const STEPS_7: [u64; 76] = [
-    4,
-    0,
-    0,
-    0,
-    2,
-    0,
-    9,
-    0,
-    8,
-    0,
-    0,
-    0,
-    9,
-    0,
-    0,
-    0,
-    3,
-    0,
-    9,
-    4,
-    5,
-    0,
-    0,
-    0,
-    8,
-    0,
-    0,
-    0,
-    9,
-    0,
-    0,
-    0,
-    6,
-    0,
-    0,
-    0,
-    4,
-    1,
-    0,
-    0,
-    2,
-    1,
-    9,
-    0,
-    8,
-    1,
-    0,
-    0,
-    9,
-    1,
-    0,
-    0,
-    3,
-    1,
-    9,
-    5,
-    5,
-    1,
-    0,
-    0,
-    8,
-    1,
-    0,
-    0,
-    9,
-    1,
-    0,
-    0,
-    6,
-    1,
-    0,
-    0,
-    10,
-    1,
-    0,
-    0,
-];
-
-// P7: thread 0 makes cell 9 4, then thread 1 makes it 5, each under lock 0, released. PRUNE 1 first.
-fn point_7() -> bool {
-    let start = nine();
-    let steps = STEPS_7;
-    answered(&start, &steps) == 16
-}
-
-// The steps of P8.
-const STEPS_8: [u64; 76] = [
-    4,
-    0,
-    0,
-    0,
-    2,
-    0,
-    9,
-    0,
-    8,
-    0,
-    0,
-    0,
-    9,
-    0,
-    0,
-    0,
-    3,
-    0,
-    9,
-    4,
-    5,
-    0,
-    0,
-    0,
-    8,
-    0,
-    0,
-    0,
-    9,
-    0,
-    0,
-    0,
-    6,
-    0,
-    0,
-    0,
-    4,
-    1,
-    0,
-    0,
-    2,
-    1,
-    9,
-    0,
-    8,
-    1,
-    0,
-    0,
-    9,
-    1,
-    0,
-    0,
-    3,
-    1,
-    9,
-    5,
-    5,
-    1,
-    0,
-    0,
-    8,
-    1,
-    0,
-    0,
-    9,
-    1,
-    0,
-    0,
-    6,
-    1,
-    0,
-    0,
-    11,
-    0,
-    1,
-    0,
-];
-
-// P8: none pruned, line evicted.
-fn point_8() -> bool {
-    let start = nine();
-    let steps = STEPS_8;
-    if images(&start, &steps, 9, 5) {
-        return recovers(&start, &steps, &start);
-    }
-    false
-}
-
-// The steps of P9.
-const STEPS_9: [u64; 84] = [
-    4,
-    0,
-    0,
-    0,
-    2,
-    0,
-    9,
-    0,
-    8,
-    0,
-    0,
-    0,
-    9,
-    0,
-    0,
-    0,
-    3,
-    0,
-    9,
-    4,
-    5,
-    0,
-    0,
-    0,
-    8,
-    0,
-    0,
-    0,
-    9,
-    0,
-    0,
-    0,
-    6,
-    0,
-    0,
-    0,
-    4,
-    1,
-    0,
-    0,
-    2,
-    1,
-    9,
-    0,
-    8,
-    1,
-    0,
-    0,
-    9,
-    1,
-    0,
-    0,
-    3,
-    1,
-    9,
-    5,
-    5,
-    1,
-    0,
-    0,
-    8,
-    1,
-    0,
-    0,
-    9,
-    1,
-    0,
-    0,
-    6,
-    1,
-    0,
-    0,
-    7,
-    0,
-    1,
-    0,
-    9,
-    0,
-    0,
-    0,
-    10,
-    0,
-    0,
-    0,
-];
-
-// P9: lines flushed and fenced, thread 0 pruned.
-fn point_9() -> bool {
-    let start = nine();
-    let wanted = nine_made_4();
-    let steps = STEPS_9;
-    if answered(&start, &steps) != 0 {
-        return false;
-    }
-    if given(&start, &steps) != 3 {
-        return false;
-    }
-    recovers(&start, &steps, &wanted)
-}
-
-fn point_10() -> bool {
-    let image = p10();
-    refuses(&image, 24)
-}
-
-// P11: an image of 1,155 words.
-fn point_11() -> bool {
-    let image = [0u64; 1155];
-    refuses(&image, 21)
-}
-
+// Runs the points in document 01's order.
 fn main() {
     report(b"P1", point_1());
     report(b"P2", point_2());

@@ -1,25 +1,41 @@
--- What test 23 tells of an entry that it lets pass.
-use Prim.Native.Nat.{ℕ, _<_}
-use mathlib.Core.Path.{_≡_, refl}
-use mathlib.Core.Bool.{Bool, true, false, _||_}
+-- What tests 22 and 23 tell of a head and of an entry that they let pass.
+use Prim.Native.Nat.{ℕ, _+_, _≤_, _<_}
+use mathlib.Core.Path.{_≡_, refl, sym, _∙_}
+use mathlib.Core.Bool.{Bool, true, false, true≢false, _||_}
 use native.Mathlib.Omega.{arith}
-use borrow.Author.Tests.{ltb-true, not-false, eq-eqb, ne-eqb}
-use lib.Dec.{ltb}
+use borrow.Author.Tests.{ltb-true, ltb-false, not-false, eq-eqb, ne-eqb}
+use lib.Dec.{eqb, ltb}
+use Rattle.sizes.specs.Sizes.{lockCount}
 use Rattle.answer.proofs.BelowLaws.{someBelow-none}
+use Rattle.ring.specs.Ring.{lastLsn}
 use Rattle.log.specs.Stretch.{headsAt}
-use Rattle.recovery.specs.Undo.{StoredLog, entryKind, entryPlace, entryValue}
-use Rattle.recovery.specs.Recover.{isBadEntry, hasBadEntry}
-use Rattle.recovery.specs.Reading.{entryIn, Good}
-use Rattle.recovery.specs.Latest.{lockCount}
+use Rattle.recovery.specs.Undo.{StoredLog, presentIn, entryKind, entryPlace, entryValue}
+use Rattle.recovery.specs.Recover.{isBadHead, isBadEntry, hasBadEntry}
+use Rattle.recovery.specs.Reading.{entryIn, isBad, Good}
 use Rattle.recovery.specs.declared.Entry.{Entry}
-use Rattle.recovery.proofs.LogsRead.{presentIn}
 
 -- neither of two tests holds
 or-first : (one other : Bool) → (one || other) ≡ false → one ≡ false
 or-first false other neither = refl
 or-first true other neither = neither
 
+or-second : (one other : Bool) → (one || other) ≡ false → other ≡ false
+or-second false other neither = neither
+or-second true other neither = absurd (true≢false neither)
+
+-- a head that test 22 lets pass is an LSN, or the number after the last one
+pub good-head : (log : StoredLog) → isBadHead log ≡ false → log .head ≤ lastLsn + 1
+unfolding isBadHead
+good-head log good = ltb-false (lastLsn + 1) (log .head) (or-second (eqb (log .head) 0) _ good)
+
 module _ (entry : Entry) (good : Good entry) where
+  -- it is of some kind
+  pub good-known : entry .kind ≡ 0 → ⊥
+  unfolding isBadEntry
+  good-known none =
+      let is-bad : isBad entry ≡ true = rw none in
+      true≢false (sym is-bad ∙ good)
+
   -- a STORE is of a cell
   pub good-store : entry .kind ≡ 1 → entry .place < headsAt
   unfolding isBadEntry

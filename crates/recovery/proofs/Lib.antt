@@ -4,6 +4,7 @@ pub mod Writes
 pub mod LogsRead
 pub mod GoodEntries
 pub mod LatestLaws
+pub mod Pass
 pub mod UndoLaws
 pub mod Turns
 pub mod Outcomes

@@ -3,15 +3,12 @@ use Prim.Native.Nat.{ℕ, _+_, _<_}
 use mathlib.Core.Path.{_≡_, sym, ap, ap₂, _∙_}
 use mathlib.Core.List.{List, []}
 use lib.ListN.{length, getD, length-map}
+use Rattle.sizes.specs.Sizes.{threadCount}
 use Rattle.answer.specs.Lists.{tab}
 use Rattle.answer.proofs.ListLaws.{length-tab, getD-tab, map-tab}
-use Rattle.log.specs.Stretch.{headsAt, stretchOf, presentOf}
-use Rattle.recovery.specs.Undo.{threadCount, StoredLog, storedLogs, leftOf, undoStart}
+use Rattle.log.specs.Stretch.{headsAt, stretchOf}
+use Rattle.recovery.specs.Undo.{StoredLog, storedLogs, presentIn, leftOf, undoStart}
 use Rattle.recovery.specs.Reading.{logOf, logIn}
-
--- how many entries are present in a log
-abbrev pub presentIn : StoredLog → ℕ
-presentIn log = presentOf (log .stretch) (log .head)
 
 module _ (image : List ℕ) where
   -- a thread's stretch, from its head on

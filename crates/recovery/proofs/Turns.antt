@@ -1,64 +1,97 @@
 -- The loop of turns: each takes one entry, and what is left to do from where it stands leads to the whole undo.
-use Prim.Native.Nat.{ℕ, _+_, _-_, _*_, _≤_, _<_}
+use Prim.Native.Nat.{ℕ, _+_, _-_, _≤_, _<_}
 use mathlib.Core.Path.{_≡_, refl, sym, ap, ap₂, _∙_}
-use mathlib.Core.Bool.{cond}
+use mathlib.Core.Bool.{true, false, not, cond}
 use mathlib.Core.List.{List}
 use mathlib.Core.Logic.{by-cases}
-use mathlib.Core.Option.{Option, none, some}
 use native.Mathlib.Decide.{ℕ-discrete}
 use native.Mathlib.Omega.{arith}
 use lib.ListN.{length, set, take, length-set}
 use lib.Seq.{getD-set-same, getD-set-other}
 use lib.Dec.{eqb}
+use borrow.Author.Tests.{eq-eqb, ne-eqb}
+use Rattle.sizes.specs.Sizes.{threadCount}
 use Rattle.log.specs.Stretch.{headsAt}
-use Rattle.recovery.specs.Undo.{threadCount, storedLogs, Undo, leftOf, lowestFrom, takeLast, takeMany, undoStart, undone}
-use Rattle.recovery.specs.Reading.{logIn, entryIn, Good, nextOf}
-use Rattle.recovery.specs.Latest.{lockCount, latestAcquire, latestLeft, Readable, Tracked}
+use Rattle.undo.specs.declared.SyncCount.{SyncCount}
+use Rattle.recovery.specs.Undo.{storedLogs, presentIn, Undo, leftOf, mayTake, lowestFrom, takeLast, takeMany, undoStart, undone}
+use Rattle.recovery.specs.Reading.{logIn, entryIn, lastOf, Good}
+use Rattle.recovery.specs.Latest.{lockOf, rowOf, withCount, earlierOf, mayTakeLast, Readable, Remembers, Tracked}
 use Rattle.recovery.specs.declared.Entry.{Entry}
-use Rattle.recovery.specs.declared.Next.the-variants.{Nobody, Thread}
-use Rattle.recovery.proofs.LogsRead.{presentIn, start-long, start-left}
-use Rattle.recovery.proofs.GoodEntries.{present-good, good-acquire}
-use Rattle.recovery.proofs.LatestLaws.{latest-taken}
-use Rattle.recovery.proofs.UndoLaws.{may-take-has, lowest-may, take-nothing, take-one}
+use Rattle.recovery.specs.declared.Latest.{Latest}
+use Rattle.recovery.proofs.LogsRead.{start-long, start-left}
+use Rattle.recovery.proofs.GoodEntries.{present-good, good-known, good-release}
+use Rattle.recovery.proofs.LatestLaws.{waits-for-latest, remember-fewer}
+use Rattle.recovery.proofs.UndoLaws.{may-take-nothing, may-take-other, may-take-release, may-take-has, lowest-here, lowest-later, lowest-nowhere, take-nothing, take-one}
 
--- what the search for the next thread found
-pub next-thread : (found : Option ℕ) (thread : ℕ) → nextOf found ≡ Thread thread → found ≡ some thread
-next-thread none thread is = absurd (let never : _≡_ {A = ℕ} 0 1 = cc in omega arith)
-next-thread (some other) thread is = cc
+-- the last entry that a thread has left may be lastTaken, by what is remembered, just when the undo order says so
+module _ {image left : List ℕ} {latest : List Latest} {earlier : List SyncCount} (at : Tracked image left latest earlier) (thread : ℕ) (inside : thread < threadCount) where
+  abbrev last : Entry
+  last = lastOf (logIn image thread) (leftOf left thread)
 
-pub next-nobody : (found : Option ℕ) → nextOf found ≡ Nobody → found ≡ none
-next-nobody none is = refl
-next-nobody (some other) is = absurd (let never : _≡_ {A = ℕ} 0 1 = cc in omega arith)
+  module _ (has : leftOf left thread ≡ 0 → ⊥) where
+    abbrev lastTaken : Entry
+    lastTaken = entryIn (logIn image thread) (leftOf left thread - 1)
+
+    last-is : last ≡ lastTaken
+    last-is = rw (ne-eqb (leftOf left thread) 0 has)
+
+    taken-good : Good lastTaken
+    taken-good =
+        present-good (logIn image thread) (at .readable .good thread inside) (leftOf left thread - 1)
+        (omega (arith, at .within thread inside, has))
+
+    may-some : mayTakeLast lastTaken (rowOf latest (lockOf (lastTaken .place))) ≡ mayTake (storedLogs image) left thread
+    unfolding mayTakeLast
+    may-some =
+        rw (ne-eqb (lastTaken .kind) 0 (good-known lastTaken taken-good))
+        (by-cases (ℕ-discrete (lastTaken .kind) 3)
+        (λ release.
+        let locked = good-release lastTaken taken-good release in
+        let own : lockOf (lastTaken .place) ≡ lastTaken .place = omega (arith, locked) in
+        rw (eq-eqb (lastTaken .kind) 3 release, own)
+        (ap not (waits-for-latest (at .remembers) (lastTaken .place) (lastTaken .value) locked)
+        ∙ sym (may-take-release (storedLogs image) left thread has release)))
+        (λ other. rw (ne-eqb (lastTaken .kind) 3 other) (sym (may-take-other (storedLogs image) left thread has other))))
+
+  nothing-left : leftOf left thread ≡ 0 → mayTakeLast last (rowOf latest (lockOf (last .place))) ≡ mayTake (storedLogs image) left thread
+  unfolding mayTakeLast
+  nothing-left nothing = rw (eq-eqb (leftOf left thread) 0 nothing) (sym (may-take-nothing (storedLogs image) left thread nothing))
+
+  pub may-last : mayTakeLast last (rowOf latest (lockOf (last .place))) ≡ mayTake (storedLogs image) left thread
+  may-last =
+      by-cases (ℕ-discrete (leftOf left thread) 0) nothing-left
+      (λ has. ap (λ (entry : Entry). mayTakeLast entry (rowOf latest (lockOf (entry .place)))) (last-is has) ∙ may-some has)
 
 -- the counts and the cells so far
 abbrev pub state : List ℕ → List ℕ → Undo
 state left cells = record { left = left; cells = cells }
 
--- a loop of 256 turns stands before this one
-pub record Midway (image left latest cells : List ℕ) (turn : ℕ) : Type 0 where
+-- a loop of 256 turns stands before this one, and has passed the threads before this one
+pub record Midway (image left : List ℕ) (latest : List Latest) (earlier : List SyncCount) (cells : List ℕ) (turn thread : ℕ) : Type 0 where
   pub over : turn ≤ 256
+  pub inside : thread < threadCount
   pub threads : length left ≡ threadCount
-  pub tracked : Tracked image left latest
+  pub tracked : Tracked image left latest earlier
   pub leads : takeMany (256 - turn) (storedLogs image) (state left cells) ≡ undone image
+  pub passed : lowestFrom (storedLogs image) left 0 threadCount ≡ lowestFrom (storedLogs image) left thread (threadCount - thread)
 
-pub turns-start : {image left latest cells : List ℕ} → Readable image → left ≡ undoStart image .left → latest ≡ latestLeft image left → cells ≡ take headsAt image → Midway image left latest cells 0
+pub turns-start : {image left cells : List ℕ} {latest : List Latest} {earlier : List SyncCount} → Readable image → left ≡ undoStart image .left →
+    Remembers image (leftOf left) latest earlier → cells ≡ take headsAt image → Midway image left latest earlier cells 0 0
 unfolding undone undoStart
-turns-start {image} {left} {latest} {cells} readable left-is latest-is cells-is = record {
+turns-start {image} {left} {cells} readable left-is remembers cells-is = record {
   over = omega arith;
+  inside = omega arith;
   threads = ap length left-is ∙ start-long image;
   tracked = record {
     readable = readable;
     within = λ thread inside. omega (arith, ap (λ (counts : List ℕ). leftOf counts thread) left-is ∙ start-left image thread inside);
-    remembered = latest-is;
+    remembers = remembers;
   };
   leads = ap (takeMany 256 (storedLogs image)) (ap₂ state left-is cells-is);
+  passed = refl;
 }
 
-module _ {image left latest cells : List ℕ} {turn : ℕ} (at : Midway image left latest cells turn) where
-  -- none may be taken any more
-  pub turns-stop : lowestFrom (storedLogs image) left 0 threadCount ≡ none → state left cells ≡ undone image
-  turns-stop nobody = sym (take-nothing (storedLogs image) (state left cells) nobody (256 - turn)) ∙ at .leads
-
+module _ {image left cells : List ℕ} {latest : List Latest} {earlier : List SyncCount} {turn thread : ℕ} (at : Midway image left latest earlier cells turn thread) where
   -- all turns are over
   pub turns-end : 256 ≤ turn → state left cells ≡ undone image
   unfolding takeMany
@@ -66,52 +99,88 @@ module _ {image left latest cells : List ℕ} {turn : ℕ} (at : Midway image le
       let last-turn : 256 - turn ≡ 0 = omega arith in
       sym (ap (λ (count : ℕ). takeMany count (storedLogs image) (state left cells)) last-turn) ∙ at .leads
 
-  module _ {thread : ℕ} (lowest : lowestFrom (storedLogs image) left 0 threadCount ≡ some thread) where
-    pub turn-inside : thread < threadCount
-    turn-inside = lowest-may (storedLogs image) left 0 threadCount thread lowest .0
+  -- this thread's last entry may not be taken
+  module _ (mayNot : mayTake (storedLogs image) left thread ≡ false) where
+    later-ones : lowestFrom (storedLogs image) left 0 threadCount ≡ lowestFrom (storedLogs image) left (thread + 1) (threadCount - (thread + 1))
+    later-ones = at .passed ∙ lowest-later (storedLogs image) left thread threadCount (at .inside) mayNot
 
+    -- nor any other's
+    pub turns-stop : thread + 1 ≡ threadCount → state left cells ≡ undone image
+    turns-stop past =
+        sym
+        (take-nothing (storedLogs image) (state left cells)
+        (later-ones ∙ lowest-nowhere (storedLogs image) left (thread + 1) threadCount (omega (arith, past))) (256 - turn))
+        ∙ at .leads
+
+    pub turns-pass : (thread + 1 ≡ threadCount → ⊥) → Midway image left latest earlier cells turn (thread + 1)
+    turns-pass more = record {
+      over = at .over;
+      inside = omega (arith, at .inside, more);
+      threads = at .threads;
+      tracked = at .tracked;
+      leads = at .leads;
+      passed = later-ones;
+    }
+
+  -- this thread's last entry may be taken
+  module _ (may : mayTake (storedLogs image) left thread ≡ true) where
     pub turn-has : 1 ≤ leftOf left thread
     turn-has =
-        let has = may-take-has (storedLogs image) left thread (lowest-may (storedLogs image) left 0 threadCount thread lowest .1) in
+        let has = may-take-has (storedLogs image) left thread may in
         omega (arith, has)
 
     -- the thread's last entry, and what is left without it
-    abbrev last : ℕ
-    last = leftOf left thread - 1
+    abbrev index : ℕ
+    index = leftOf left thread - 1
 
     abbrev taken : Entry
-    taken = entryIn (logIn image thread) last
+    taken = entryIn (logIn image thread) index
 
     abbrev fewer : List ℕ
-    fewer = set left thread last
+    fewer = set left thread index
+
+    pub turn-last : lastOf (logIn image thread) (leftOf left thread) ≡ taken
+    turn-last = last-is (at .tracked) thread (at .inside) (may-take-has (storedLogs image) left thread may)
 
     pub turn-good : Good taken
-    turn-good =
-        present-good (logIn image thread) (at .tracked .readable .good thread turn-inside) last
-        (omega (arith, at .tracked .within thread turn-inside, turn-has))
+    turn-good = taken-good (at .tracked) thread (at .inside) (may-take-has (storedLogs image) left thread may)
 
     inside-left : thread < length left
-    inside-left = omega (arith, turn-inside, at .threads)
+    inside-left = omega (arith, at .inside, at .threads)
+
+    one-fewer : leftOf fewer thread ≡ index
+    one-fewer = getD-set-same left thread index 0 inside-left
+
+    others-stay : (other : ℕ) → (other ≡ thread → ⊥) → leftOf fewer other ≡ leftOf left other
+    others-stay other another = getD-set-other left thread other index 0 another
 
     fewer-within : (other : ℕ) → other < threadCount → leftOf fewer other ≤ presentIn (logIn image other)
-    fewer-within other inside =
+    fewer-within other below =
         by-cases (ℕ-discrete other thread)
-        (λ same. rw same (omega (arith, at .tracked .within thread turn-inside, getD-set-same left thread last 0 inside-left)))
-        (λ another. rw (getD-set-other left thread other last 0 another) (at .tracked .within other inside))
+        (λ same. rw same (omega (arith, at .tracked .within thread (at .inside), one-fewer)))
+        (λ another. rw (others-stay other another) (at .tracked .within other below))
 
     -- one entry is taken
     pub turns-on : turn < 256 → Midway image fewer
-        (cond (eqb (taken .kind) 2) (set latest (thread * lockCount + taken .place) (latestAcquire (logIn image thread) last (taken .place))) latest)
+        (set latest (lockOf (taken .place)) (withCount (rowOf latest (lockOf (taken .place))) thread (earlierOf earlier thread index)))
+        earlier
         (cond (eqb (taken .kind) 1) (set cells (taken .place) (taken .value)) cells)
         (turn + 1)
+        0
     unfolding takeLast
     turns-on more = record {
       over = omega arith;
-      threads = length-set left thread last ∙ at .threads;
+      inside = omega arith;
+      threads = length-set left thread index ∙ at .threads;
       tracked = record {
         readable = at .tracked .readable;
         within = fewer-within;
-        remembered = rw (at .tracked .remembered) (latest-taken image left thread inside-left turn-has (good-acquire taken turn-good));
+        remembers = remember-fewer (at .tracked .remembers) thread (at .inside) turn-has turn-good (leftOf fewer) one-fewer (λ other below. others-stay other);
       };
-      leads = sym (take-one (storedLogs image) (state left cells) thread turn 256 more lowest) ∙ at .leads;
+      leads =
+          sym
+          (take-one (storedLogs image) (state left cells) thread turn 256 more
+          (at .passed ∙ lowest-here (storedLogs image) left thread threadCount (at .inside) may))
+          ∙ at .leads;
+      passed = refl;
     }

@@ -7,8 +7,9 @@ use mathlib.Core.Option.{Option, none, some, Option·some-injective, Option·non
 use native.Mathlib.Numerals.{add-one}
 use native.Mathlib.Omega.{arith}
 use borrow.Author.Tests.{eq-eqb, ne-eqb}
+use Rattle.sizes.specs.Sizes.{threadCount}
 use Rattle.answer.specs.Lists.{someBelow}
-use Rattle.recovery.specs.Undo.{threadCount, StoredLog, storedLog, entryKind, entryPlace, entryValue, Undo, leftOf, hasLaterAcquire, mayTakeEntry, mayTake, lowestFrom, takeLast, takeFrom, takeNext, takeMany}
+use Rattle.recovery.specs.Undo.{StoredLog, storedLog, entryKind, entryPlace, entryValue, Undo, leftOf, hasLaterAcquire, mayTakeEntry, mayTake, lowestFrom, takeLast, takeFrom, takeNext, takeMany}
 
 module _ (logs : List StoredLog) (left : List ℕ) where
   -- some log has a later ACQUIRE of the lock left

@@ -1,19 +1,22 @@
--- What the code remembers of the ACQUIREs that are left, so that a RELEASE is tested without a walk through the logs.
-use Prim.Native.Nat.{ℕ, zero, suc, _*_, _/_, _%_, _≤_, _<_}
+-- What the code remembers of the ACQUIREs that are left, so that a RELEASE is tested without a walk through the logs, and an entry that
+-- is taken is forgotten by an assignment.
+use Prim.Native.Nat.{ℕ, zero, suc, _+_, _*_, _%_, _≤_, _<_}
 use mathlib.Core.Path.{_≡_}
-use mathlib.Core.Bool.{false, cond, _&&_}
-use mathlib.Core.List.{List}
-use lib.ListN.{length}
+use mathlib.Core.Bool.{Bool, true, false, cond, not, _&&_}
+use mathlib.Core.List.{List, [], _∷_}
+use lib.ListN.{length, getD, set}
 use lib.Dec.{eqb, ltb}
-use Rattle.answer.specs.Lists.{tab}
-use Rattle.log.specs.Stretch.{imageWords, presentOf}
-use Rattle.recovery.specs.Undo.{threadCount, StoredLog, entryKind, entryPlace, entryValue, leftOf}
-use Rattle.recovery.specs.Recover.{hasBadEntry}
+use Rattle.sizes.specs.Sizes.{threadCount, lockCount}
+use Rattle.answer.specs.Lists.{someBelow}
+use Rattle.ring.specs.Ring.{slotCount}
+use Rattle.log.specs.Stretch.{imageWords}
+use Rattle.undo.specs.Events.{syncCount}
+use Rattle.undo.specs.declared.SyncCount.{SyncCount}
+use Rattle.recovery.specs.Undo.{StoredLog, entryKind, entryPlace, entryValue, leftOf, presentIn}
+use Rattle.recovery.specs.Recover.{isBadHead, hasBadEntry}
 use Rattle.recovery.specs.Reading.{logIn}
-
--- "8 locks (0 to 7)"
-abbrev pub lockCount : ℕ
-lockCount = 8
+use Rattle.recovery.specs.declared.Entry.{Entry}
+use Rattle.recovery.specs.declared.Latest.{Latest}
 
 -- the largest count of an ACQUIRE of the lock among so many entries of a log, and 0 where there is none
 unfoldable pub latestAcquire : StoredLog → ℕ → ℕ → ℕ
@@ -23,20 +26,69 @@ latestAcquire log (suc left) lock =
     let value = entryValue log left in
     cond (eqb (entryKind log left) 2 && eqb (entryPlace log left) lock && ltb earlier value) value earlier
 
--- that count for each thread and lock, among the entries that each thread has left: thread 0's eight locks, then thread 1's, and so on
-unfoldable pub latestLeft : List ℕ → List ℕ → List ℕ
-latestLeft image left =
-    tab
-    (threadCount * lockCount)
-    (λ place. latestAcquire (logIn image (place / lockCount)) (leftOf left (place / lockCount)) (place % lockCount))
+-- the lock that an entry of a lock is of; some lock for an entry of a cell
+abbrev pub lockOf : ℕ → ℕ
+lockOf place = place % lockCount
 
--- an image that tests 21 and 23 let pass
-pub record Readable (image : List ℕ) : Type 0 where
+-- a row of four counts, one for each thread
+abbrev pub countsOf : Latest → List SyncCount
+countsOf row = row .t0 ∷ row .t1 ∷ row .t2 ∷ row .t3 ∷ []
+
+abbrev pub rowWith : List SyncCount → Latest
+rowWith counts = record {
+  t0 = getD counts 0 (syncCount 0);
+  t1 = getD counts 1 (syncCount 0);
+  t2 = getD counts 2 (syncCount 0);
+  t3 = getD counts 3 (syncCount 0);
+}
+
+-- a thread's count in a row, and the row with another count for the thread
+unfoldable pub countOf : Latest → ℕ → SyncCount
+countOf row thread = getD (countsOf row) thread (syncCount 0)
+
+unfoldable pub withCount : Latest → ℕ → SyncCount → Latest
+withCount row thread count = rowWith (set (countsOf row) thread count)
+
+-- a lock's row of the table
+abbrev pub rowOf : List Latest → ℕ → Latest
+rowOf latest lock = getD latest lock (rowWith [])
+
+-- what was remembered before the entry that has so many before it in its thread's log
+abbrev pub earlierOf : List SyncCount → ℕ → ℕ → SyncCount
+earlierOf earlier thread index = getD earlier (thread * slotCount + index) (syncCount 0)
+
+-- a count, or an ACQUIRE's where that is larger
+abbrev pub laterOf : SyncCount → Entry → SyncCount
+laterOf count entry = syncCount (cond (eqb (entry .kind) 2 && ltb (count .0) (entry .value)) (entry .value) (count .0))
+
+-- an entry that may be taken: a RELEASE waits for ACQUIREs of its lock with a larger count, and what is not there can't be taken
+unfoldable pub mayTakeLast : Entry → Latest → Bool
+mayTakeLast last row =
+    let waits = someBelow threadCount (λ thread. ltb (last .value) (countOf row thread .0)) in
+    cond (eqb (last .kind) 0) false (cond (eqb (last .kind) 3) (not waits) true)
+
+-- an image that test 21 lets pass and test 22 too
+pub record Headed (image : List ℕ) : Type 0 where
   pub words : length image ≡ imageWords
+  pub heads : (thread : ℕ) → thread < threadCount → isBadHead (logIn image thread) ≡ false
+
+-- an image that test 23 lets pass too
+pub record Readable (image : List ℕ) : Type 0 where
+  pub headed : Headed image
   pub good : (thread : ℕ) → thread < threadCount → hasBadEntry (logIn image thread) ≡ false
 
+-- of so many entries of each thread's log, the latest ACQUIREs are remembered, and before each entry those before it
+pub record Remembers (image : List ℕ) (seen : ℕ → ℕ) (latest : List Latest) (earlier : List SyncCount) : Type 0 where
+  pub locks : length latest ≡ lockCount
+  pub places : length earlier ≡ threadCount * slotCount
+  pub few : (thread : ℕ) → thread < threadCount → seen thread ≤ slotCount
+  pub latestIs : (thread lock : ℕ) → thread < threadCount → lock < lockCount →
+      countOf (rowOf latest lock) thread .0 ≡ latestAcquire (logIn image thread) (seen thread) lock
+  pub earlierIs : (thread index : ℕ) → thread < threadCount → index < seen thread →
+      earlierOf earlier thread index .0 ≡ latestAcquire (logIn image thread) index (lockOf (entryPlace (logIn image thread) index))
+
 -- the counts are of present entries, and the ACQUIREs among those that are left are remembered
-pub record Tracked (image left latest : List ℕ) : Type 0 where
+pub record Tracked (image left : List ℕ) (latest : List Latest) (earlier : List SyncCount) : Type 0 where
   pub readable : Readable image
-  pub within : (thread : ℕ) → thread < threadCount → leftOf left thread ≤ presentOf (logIn image thread .stretch) (logIn image thread .head)
-  pub remembered : latest ≡ latestLeft image left
+  pub within : (thread : ℕ) → thread < threadCount → leftOf left thread ≤ presentIn (logIn image thread)
+  pub remembers : Remembers image (leftOf left) latest earlier

@@ -1,14 +1,12 @@
 -- What the code reads of an image and hands on, in the words of the undo order.
-use Prim.Native.Nat.{ℕ}
+use Prim.Native.Nat.{ℕ, _-_}
 use mathlib.Core.Path.{_≡_}
-use mathlib.Core.Bool.{false}
+use mathlib.Core.Bool.{Bool, false, cond}
 use mathlib.Core.List.{List}
-use mathlib.Core.Option.{Option, none, some}
+use lib.Dec.{eqb}
 use Rattle.recovery.specs.Undo.{StoredLog, storedLogs, storedLog, entryKind, entryPlace, entryValue, Undo}
 use Rattle.recovery.specs.Recover.{isBadEntry}
 use Rattle.recovery.specs.declared.Entry.{Entry}
-use Rattle.recovery.specs.declared.Next.{Next}
-use Rattle.recovery.specs.declared.Next.the-variants.{Nobody, Thread}
 use Rattle.recovery.specs.declared.Undone.{Undone}
 
 -- the log with this stretch and this head
@@ -23,14 +21,20 @@ logIn image thread = storedLog (storedLogs image) thread
 abbrev pub entryIn : StoredLog → ℕ → Entry
 entryIn log index = record { kind = entryKind log index; place = entryPlace log index; value = entryValue log index }
 
--- an entry that test 23 lets pass
-abbrev pub Good : Entry → Type 0
-Good entry = isBadEntry (entry .kind) (entry .place) (entry .value) ≡ false
+-- an entry that test 23 refuses, and one that it lets pass
+abbrev pub isBad : Entry → Bool
+isBad entry = isBadEntry (entry .kind) (entry .place) (entry .value)
 
--- the thread that an entry is taken from next
-abbrev pub nextOf : Option ℕ → Next
-nextOf none = Nobody
-nextOf (some thread) = Thread thread
+abbrev pub Good : Entry → Type 0
+Good entry = isBad entry ≡ false
+
+-- an entry that says nothing
+abbrev pub noEntry : Entry
+noEntry = record { kind = 0; place = 0; value = 0 }
+
+-- the last of so many entries of a log
+abbrev pub lastOf : StoredLog → ℕ → Entry
+lastOf log left = cond (eqb left 0) noEntry (entryIn log (left - 1))
 
 -- how many entries each thread has left, and the cells so far
 abbrev pub undoOf : Undone → Undo

@@ -2,16 +2,13 @@
 -- It is stated over the four logs of an image and how many present entries each has left.
 use Prim.Native.Nat.{ℕ, zero, suc, _+_, _-_}
 use mathlib.Core.Bool.{Bool, true, false, cond, not, _&&_}
-use mathlib.Core.List.{List, [], _∷_, map}
+use mathlib.Core.List.{List, [], map}
 use mathlib.Core.Option.{Option, none, some}
 use lib.ListN.{getD, set, take}
 use lib.Dec.{eqb, ltb}
+use Rattle.sizes.specs.Sizes.{threadCount}
 use Rattle.answer.specs.Lists.{tab, someBelow}
 use Rattle.log.specs.Stretch.{headsAt, stretchOf, kindAt, placeAt, valueAt, presentOf}
-
--- "4 threads (0 to 3)"
-abbrev pub threadCount : ℕ
-threadCount = 4
 
 -- one thread's log in an image: its head and its stretch
 pub record StoredLog : Type 0 where
@@ -25,6 +22,10 @@ storedLogs image =
 
 abbrev pub storedLog : List StoredLog → ℕ → StoredLog
 storedLog logs thread = getD logs thread (record { head = 0; stretch = [] })
+
+-- how many entries of a log are present
+abbrev pub presentIn : StoredLog → ℕ
+presentIn log = presentOf (log .stretch) (log .head)
 
 -- the kind, place and value of the present entry that has so many present ones before it
 abbrev pub entryKind : StoredLog → ℕ → ℕ
@@ -98,7 +99,7 @@ takeMany (suc count) logs undo = takeMany count logs (takeNext logs undo)
 -- "Recovery copies the kept cells", and every present entry is left
 unfoldable pub undoStart : List ℕ → Undo
 undoStart image = record {
-  left = map (λ log. presentOf (log .stretch) (log .head)) (storedLogs image);
+  left = map presentIn (storedLogs image);
   cells = take headsAt image;
 }
 

@@ -1,29 +1,31 @@
 // Recovery: what an image's cells were before the regions that were not pruned. Stands on the log's stated behaviour.
 ghost use mathlib.Core.Path.{_≡_};
-ghost use mathlib.Core.Bool.{cond, not, _&&_, _||_};
+ghost use mathlib.Core.Bool.{cond, not, _||_};
 ghost use mathlib.Core.List.{[]};
 ghost use Prim.Native.Nat.{_+_, _*_, _<_, _≤_};
-ghost use lib.ListN.{length, getD, set, take};
+ghost use lib.ListN.{length, set, take};
 ghost use lib.Dec.{eqb, ltb};
+ghost use Rattle.sizes.specs.Sizes.{threadCount};
 ghost use Rattle.answer.specs.Lists.{someBelow};
+ghost use Rattle.ring.specs.Ring.{lsn};
 ghost use Rattle.log.specs.Stretch.{imageWords, headsAt};
-ghost use Rattle.recovery.specs.Undo.{threadCount, storedLogs, leftOf, mayTake, lowestFrom, undoStart, undone};
+ghost use Rattle.recovery.specs.Undo.{leftOf, undoStart, undone};
 ghost use Rattle.recovery.specs.Recover.{lastSyncCount, isBadHead, isBadEntry, hasBadEntry, recoverOf};
-ghost use Rattle.recovery.specs.Reading.{logOf, logIn, entryIn, Good, nextOf, undoOf};
-ghost use Rattle.recovery.specs.Latest.{lockCount, latestAcquire, latestLeft, Readable, Tracked};
+ghost use Rattle.recovery.specs.Reading.{logOf, logIn, entryIn, lastOf, isBad, Good, undoOf};
+ghost use Rattle.recovery.specs.Latest.{lockOf, countOf, withCount, laterOf, mayTakeLast, Headed, Readable, Remembers};
 use answer::Answer;
+use log::HEADS_AT;
+use log::IMAGE_WORDS;
+use ring::Lsn;
+use sizes::CELLS;
+use sizes::LOCKS;
+use sizes::SLOTS;
+use sizes::THREADS;
+use sizes::words;
+use undo::SyncCount;
 
-// The words of an image.
-const IMAGE_WORDS: usize = 1156;
-
-// The cells, which an image begins with.
-const CELLS: usize = 128;
-
-// The threads, each of which has a log in an image.
-const THREADS: usize = 4;
-
-// The locks, of which each thread may have ACQUIREs.
-const LOCKS: usize = 8;
+// The entries that an image has at most.
+const ENTRIES: usize = THREADS * SLOTS;
 
 // What an entry of an image says: document 01's kind, place and value.
 struct Entry {
@@ -32,10 +34,18 @@ struct Entry {
     value: u64,
 }
 
-// The thread that an entry is taken from next, if any.
-enum Next {
-    Nobody,
-    Thread(usize),
+// Of one lock, the largest count among each thread's ACQUIREs that are left, and 0 where there is none.
+struct Latest {
+    t0: SyncCount,
+    t1: SyncCount,
+    t2: SyncCount,
+    t3: SyncCount,
+}
+
+// What is remembered of the ACQUIREs that are left: each lock's latest, and for each entry of each thread what its thread had before it.
+struct Remembered {
+    latest: [Latest; LOCKS],
+    earlier: [SyncCount; ENTRIES],
 }
 
 // How many entries each thread has left to take, and the cells so far.
@@ -44,19 +54,27 @@ struct Undone {
     cells: [u64; CELLS],
 }
 
-// The head of a thread's log.
-fn head_of(image: &[u64], thread: usize) -> u64
+// The head of a thread's log, as the image has it: any word.
+fn head_word(image: &[u64], thread: usize) -> u64
     requires { ⌜ (length (now image) ≡ imageWords) × (thread < threadCount) ⌝ }
     ensures { λ r. ⌜ r ≡ logIn (now (image .entry)) thread .head ⌝ }
 {
-    image[CELLS + thread]
+    image[HEADS_AT + thread]
+}
+
+// The LSN of a thread's head, which test 22 let pass.
+fn head_of(image: &[u64], thread: usize) -> Lsn
+    requires { ⌜ Headed (now image) × (thread < threadCount) ⌝ }
+    ensures { λ r. ⌜ r ≡ lsn (logIn (now (image .entry)) thread .head) ⌝ }
+{
+    Lsn(head_word(image, thread) as u32)
 }
 
 // What the entry says that has so many entries before it. A slot is an LSN mod 64, so 64s may be left out, and the sum can't wrap.
-fn read_entry(stretch: &[u64], head: u64, index: usize) -> Entry
-    ensures { λ r. ⌜ r ≡ entryIn (logOf (now (stretch .entry)) head) index ⌝ }
+fn read_entry(stretch: &[u64], head: Lsn, index: usize) -> Entry
+    ensures { λ r. ⌜ r ≡ entryIn (logOf (now (stretch .entry)) (head .0)) index ⌝ }
 {
-    let number = head % 64 + index as u64 % 64;
+    let number = head.0 as u64 + index as u64 % words::SLOTS;
     Entry {
         kind: log::word(stretch, number, 0),
         place: log::word(stretch, number, 1),
@@ -64,9 +82,9 @@ fn read_entry(stretch: &[u64], head: u64, index: usize) -> Entry
     }
 }
 
-// The same of a thread's log in an image.
+// What a thread's entry says that has so many entries before it.
 fn entry_of(image: &[u64], thread: usize, index: usize) -> Entry
-    requires { ⌜ (length (now image) ≡ imageWords) × (thread < threadCount) ⌝ }
+    requires { ⌜ Headed (now image) × (thread < threadCount) ⌝ }
     ensures { λ r. ⌜ r ≡ entryIn (logIn (now (image .entry)) thread) index ⌝ }
 {
     read_entry(log::stretch(image, thread), head_of(image, thread), index)
@@ -79,7 +97,7 @@ fn is_bad_head(head: u64) -> bool
     if head == 0 {
         return true;
     }
-    1000001 < head
+    words::LAST_HEAD < head
 }
 
 // Some thread's head is bad.
@@ -89,7 +107,7 @@ fn has_bad_heads(image: &[u64]) -> bool
 {
     let mut thread = 0;
     while thread < THREADS {
-        if is_bad_head(head_of(image, thread)) {
+        if is_bad_head(head_word(image, thread)) {
             return true;
         }
         thread += 1;
@@ -101,8 +119,8 @@ fn has_bad_heads(image: &[u64]) -> bool
 fn is_bad_lock(lock: u64, count: u64) -> bool
     ensures { λ r. ⌜ r ≡ (not (ltb lock 8) || ltb lastSyncCount count) ⌝ }
 {
-    if lock < 8 {
-        return 4000000 < count;
+    if lock < words::LOCKS {
+        return words::LAST_COUNT < count;
     }
     true
 }
@@ -112,7 +130,7 @@ fn is_bad_entry(entry: Entry) -> bool
     ensures { λ r. ⌜ r ≡ isBadEntry (entry .kind) (entry .place) (entry .value) ⌝ }
 {
     if entry.kind == 1 {
-        return !(entry.place < 128);
+        return !(entry.place < words::CELLS);
     }
     if entry.kind == 2 {
         return is_bad_lock(entry.place, entry.value);
@@ -123,11 +141,10 @@ fn is_bad_entry(entry: Entry) -> bool
     true
 }
 
-// Some present entry of the log is bad.
-fn has_bad_entry(stretch: &[u64], head: u64) -> bool
-    ensures { λ r. ⌜ r ≡ hasBadEntry (logOf (now (stretch .entry)) head) ⌝ }
+// Some of the first entries of the log is bad.
+fn has_bad_entry(stretch: &[u64], head: Lsn, present: usize) -> bool
+    ensures { λ r. ⌜ r ≡ someBelow present (λ index. isBad (entryIn (logOf (now (stretch .entry)) (head .0)) index)) ⌝ }
 {
-    let present = log::present(stretch, head);
     let mut index = 0;
     while index < present {
         if is_bad_entry(read_entry(stretch, head, index)) {
@@ -138,14 +155,18 @@ fn has_bad_entry(stretch: &[u64], head: u64) -> bool
     false
 }
 
-// Some thread has a bad entry.
-fn has_bad_entries(image: &[u64]) -> bool
-    requires { ⌜ length (now image) ≡ imageWords ⌝ }
+// Some thread has a bad entry among those that are present.
+fn has_bad_entries(image: &[u64], present: [usize; THREADS]) -> bool
+    requires { ⌜ Headed (now image) × (present ≡ undoStart (now image) .left) ⌝ }
     ensures { λ r. ⌜ r ≡ someBelow threadCount (λ thread. hasBadEntry (logIn (now (image .entry)) thread)) ⌝ }
 {
     let mut thread = 0;
     while thread < THREADS {
-        if has_bad_entry(log::stretch(image, thread), head_of(image, thread)) {
+        if has_bad_entry(
+            log::stretch(image, thread),
+            head_of(image, thread),
+            present[thread],
+        ) {
             return true;
         }
         thread += 1;
@@ -153,72 +174,138 @@ fn has_bad_entries(image: &[u64]) -> bool
     false
 }
 
-// The entry is an ACQUIRE of the lock with a larger count.
-fn is_later_acquire(entry: Entry, lock: u64, count: u64) -> bool
-    ensures { λ r. ⌜ r ≡ (eqb (entry .kind) 2 && eqb (entry .place) lock && ltb count (entry .value)) ⌝ }
+// How many present entries each thread has.
+fn present_entries(image: &[u64]) -> [usize; THREADS]
+    requires { ⌜ Headed (now image) ⌝ }
+    ensures { λ r. ⌜ r ≡ undoStart (now (image .entry)) .left ⌝ }
 {
-    if entry.kind != 2 {
-        return false;
+    let mut left = [0; THREADS];
+    let mut thread = 0;
+    while thread < THREADS {
+        let stretch = log::stretch(image, thread);
+        let head = head_of(image, thread);
+        let present = log::present(stretch, head.0 as u64);
+        left[thread] = present;
+        thread += 1;
     }
-    if entry.place != lock {
-        return false;
-    }
-    count < entry.value
+    left
 }
 
-// The largest count of an ACQUIRE of the lock among the first entries of the log, and 0 where there is none.
-fn latest_acquire(stretch: &[u64], head: u64, left: usize, lock: u64) -> u64
-    ensures { λ r. ⌜ r ≡ latestAcquire (logOf (now (stretch .entry)) head) left lock ⌝ }
+// The lock that an entry of a lock is of; some lock for an entry of a cell.
+fn lock_of(entry: Entry) -> usize
+    ensures { λ r. ⌜ r ≡ lockOf (entry .place) ⌝ }
 {
-    let mut latest = 0;
-    let mut index = 0;
-    while index < left {
-        let entry = read_entry(stretch, head, index);
-        if is_later_acquire(entry, lock, latest) {
-            latest = entry.value;
+    (entry.place % words::LOCKS) as usize
+}
+
+// A thread's count in a row.
+fn count_of(row: Latest, thread: usize) -> SyncCount
+    ensures { λ r. ⌜ r ≡ countOf row thread ⌝ }
+{
+    if thread == 0 {
+        return row.t0;
+    }
+    if thread == 1 {
+        return row.t1;
+    }
+    if thread == 2 {
+        return row.t2;
+    }
+    if thread == 3 {
+        return row.t3;
+    }
+    SyncCount(0)
+}
+
+// The old count, or the thread's own new one.
+fn own(old: SyncCount, new: SyncCount, mine: bool) -> SyncCount
+    ensures { λ r. ⌜ r ≡ cond mine new old ⌝ }
+{
+    if mine { new } else { old }
+}
+
+// The row with another count for a thread.
+fn with_count(row: Latest, thread: usize, count: SyncCount) -> Latest
+    requires { ⌜ thread < threadCount ⌝ }
+    ensures { λ r. ⌜ r ≡ withCount row thread count ⌝ }
+{
+    Latest {
+        t0: own(row.t0, count, thread == 0),
+        t1: own(row.t1, count, thread == 1),
+        t2: own(row.t2, count, thread == 2),
+        t3: own(row.t3, count, thread == 3),
+    }
+}
+
+// The count, or the ACQUIRE's where that is larger.
+fn later(count: SyncCount, entry: Entry) -> SyncCount
+    ensures { λ r. ⌜ r ≡ laterOf count entry ⌝ }
+{
+    if entry.kind == 2 {
+        if count.0 < entry.value {
+            return SyncCount(entry.value);
         }
-        index += 1;
     }
-    latest
+    count
 }
 
-// The same of a thread's log in an image.
-fn latest_of(image: &[u64], thread: usize, left: usize, lock: u64) -> u64
-    requires { ⌜ (length (now image) ≡ imageWords) × (thread < threadCount) ⌝ }
-    ensures { λ r. ⌜ r ≡ latestAcquire (logIn (now (image .entry)) thread) left lock ⌝ }
+// The one pass through each log: what is remembered of all present entries. Each thread has 64 places, and those past its last present
+// entry are left out.
+fn remember(image: &[u64], left: [usize; THREADS]) -> Remembered
+    requires { ⌜ Readable (now image) × (left ≡ undoStart (now image) .left) ⌝ }
+    ensures { λ r. ⌜ Remembers (now (image .entry)) (leftOf left) (r .latest) (r .earlier) ⌝ }
 {
-    latest_acquire(
-        log::stretch(image, thread),
-        head_of(image, thread),
-        left,
-        lock,
-    )
-}
-
-// The same for each thread and lock: thread 0's eight locks, then thread 1's, and so on.
-fn latest_left(image: &[u64], left: [usize; THREADS]) -> [u64; THREADS * LOCKS]
-    requires { ⌜ length (now image) ≡ imageWords ⌝ }
-    ensures { λ r. ⌜ r ≡ latestLeft (now (image .entry)) left ⌝ }
-{
-    let mut latest = [0; THREADS * LOCKS];
+    let none = SyncCount(0);
+    let nothing = Latest {
+        t0: none,
+        t1: none,
+        t2: none,
+        t3: none,
+    };
+    let mut latest = [nothing; LOCKS];
+    let mut earlier = [none; ENTRIES];
     let mut place = 0;
-    while place < THREADS * LOCKS {
-        let thread = place / LOCKS;
-        latest[place] = latest_of(image, thread, left[thread], (place % LOCKS) as u64);
-        place += 1;
+    while place < ENTRIES {
+        let thread = place / SLOTS;
+        let index = place % SLOTS;
+        let mut next = (thread + 1) * SLOTS;
+        if index < left[thread] {
+            let entry = entry_of(image, thread, index);
+            let lock = lock_of(entry);
+            let row = latest[lock];
+            let count = count_of(row, thread);
+            earlier[place] = count;
+            latest[lock] = with_count(row, thread, later(count, entry));
+            next = place + 1;
+        }
+        place = next;
     }
-    latest
+    Remembered { latest, earlier }
 }
 
-// Some thread's latest ACQUIRE of the lock has a larger count.
-fn waits(latest: &[u64; THREADS * LOCKS], lock: usize, count: u64) -> bool
-    requires { ⌜ lock < lockCount ⌝ }
-    ensures { λ r.
-        ⌜ r ≡ someBelow threadCount (λ thread. ltb count (getD (now (latest .entry)) (thread * lockCount + lock) 0)) ⌝ }
+// The last of so many entries of a thread; one that says nothing where there is none.
+fn last_of(image: &[u64], thread: usize, left: usize) -> Entry
+    requires { ⌜ Headed (now image) × (thread < threadCount) ⌝ }
+    ensures { λ r. ⌜ r ≡ lastOf (logIn (now (image .entry)) thread) left ⌝ }
+{
+    if left == 0 {
+        return Entry {
+            kind: 0,
+            place: 0,
+            value: 0,
+        };
+    }
+    entry_of(image, thread, left - 1)
+}
+
+// Some thread's latest ACQUIRE of the row's lock has a larger count.
+fn waits(row: Latest, count: SyncCount) -> bool
+    ensures { λ r. ⌜ r ≡ someBelow threadCount (λ thread. ltb (count .0) (countOf row thread .0)) ⌝ }
 {
     let mut thread = 0;
     while thread < THREADS {
-        if count < latest[thread * LOCKS + lock] {
+        let other = count_of(row, thread);
+        if count.0 < other.0 {
             return true;
         }
         thread += 1;
@@ -226,57 +313,17 @@ fn waits(latest: &[u64; THREADS * LOCKS], lock: usize, count: u64) -> bool
     false
 }
 
-// The thread has an entry left, and its last one may be taken: a RELEASE waits for the later ACQUIREs of its lock.
-fn may_take(
-    image: &[u64],
-    left: [usize; THREADS],
-    latest: &[u64; THREADS * LOCKS],
-    thread: usize,
-) -> bool
-    requires { ⌜ Tracked (now image) left (now latest) × (thread < threadCount) ⌝ }
-    ensures { λ r. ⌜ r ≡ mayTake (storedLogs (now (image .entry))) left thread ⌝ }
+// The entry may be taken: a RELEASE waits for the later ACQUIREs of its lock.
+fn may_take(last: Entry, row: Latest) -> bool
+    ensures { λ r. ⌜ r ≡ mayTakeLast last row ⌝ }
 {
-    if left[thread] == 0 {
+    if last.kind == 0 {
         return false;
     }
-    let last = entry_of(image, thread, left[thread] - 1);
     if last.kind != 3 {
         return true;
     }
-    !waits(latest, last.place as usize, last.value)
-}
-
-// The lowest thread whose last entry may be taken.
-fn lowest(image: &[u64], left: [usize; THREADS], latest: &[u64; THREADS * LOCKS]) -> Next
-    requires { ⌜ Tracked (now image) left (now latest) ⌝ }
-    ensures { λ r. ⌜ r ≡ nextOf (lowestFrom (storedLogs (now (image .entry))) left 0 threadCount) ⌝ }
-{
-    let mut thread = 0;
-    while thread < THREADS {
-        if may_take(image, left, latest, thread) {
-            return Next::Thread(thread);
-        }
-        thread += 1;
-    }
-    Next::Nobody
-}
-
-// An ACQUIRE that is taken leaves those before it, among which its thread's latest one of the lock now is.
-fn forget(
-    image: &[u64],
-    latest: &mut [u64; THREADS * LOCKS],
-    thread: usize,
-    left: usize,
-    taken: Entry,
-)
-    requires { ⌜ (length (now image) ≡ imageWords) × (thread < threadCount) × Good taken ⌝ }
-    ensures { λ _.
-        ⌜ now (latest .exit) ≡ cond (eqb (taken .kind) 2) (set (now (latest .entry)) (thread * lockCount + taken .place) (latestAcquire (logIn (now (image .entry)) thread) left (taken .place))) (now (latest .entry)) ⌝ }
-{
-    if taken.kind == 2 {
-        let lock = taken.place;
-        latest[thread * LOCKS + lock as usize] = latest_of(image, thread, left, lock);
-    }
+    !waits(row, SyncCount(last.value))
 }
 
 // A STORE that is taken writes its value back.
@@ -291,22 +338,6 @@ fn write_back(cells: &mut [u64; CELLS], taken: Entry)
     }
 }
 
-// How many present entries each thread has.
-fn present_entries(image: &[u64]) -> [usize; THREADS]
-    requires { ⌜ length (now image) ≡ imageWords ⌝ }
-    ensures { λ r. ⌜ r ≡ undoStart (now (image .entry)) .left ⌝ }
-{
-    let mut left = [0; THREADS];
-    let mut thread = 0;
-    while thread < THREADS {
-        let stretch = log::stretch(image, thread);
-        let present = log::present(stretch, head_of(image, thread));
-        left[thread] = present;
-        thread += 1;
-    }
-    left
-}
-
 // Copies the first 128 words to a buffer of as many.
 fn copy_cells(from: &[u64], to: &mut [u64])
     requires { ⌜ (headsAt ≤ length (now from)) × (length (now to) ≡ headsAt) ⌝ }
@@ -319,27 +350,37 @@ fn copy_cells(from: &[u64], to: &mut [u64])
     }
 }
 
-// Takes one entry after the other, each of the lowest thread whose last one may be taken, until none may. Four threads have at most 64
-// present entries each, so 256 turns are enough.
-fn undo(image: &[u64]) -> Undone
-    requires { ⌜ Readable (now image) ⌝ }
+// Takes one entry after the other, each of the lowest thread whose last one may be taken, until none may: `thread` goes up from 0 past
+// those whose last entry may not. Four threads have at most 64 present entries each, so 256 turns are enough.
+fn undo(image: &[u64], present: [usize; THREADS]) -> Undone
+    requires { ⌜ Readable (now image) × (present ≡ undoStart (now image) .left) ⌝ }
     ensures { λ r. ⌜ undoOf r ≡ undone (now (image .entry)) ⌝ }
 {
-    let mut left = present_entries(image);
-    let mut latest = latest_left(image, left);
+    let mut left = present;
+    let remembered = remember(image, left);
+    let mut latest = remembered.latest;
+    let earlier = remembered.earlier;
     let mut cells = [0; CELLS];
     copy_cells(image, &mut cells);
     let mut turn: usize = 0;
-    while turn < 256 {
-        let Next::Thread(thread) = lowest(image, left, &latest) else {
-            return Undone { left, cells };
-        };
-        let last = left[thread] - 1;
-        let taken = entry_of(image, thread, last);
-        left[thread] = last;
-        forget(image, &mut latest, thread, last, taken);
-        write_back(&mut cells, taken);
-        turn += 1;
+    let mut thread = 0;
+    while turn < ENTRIES {
+        let last = last_of(image, thread, left[thread]);
+        let lock = lock_of(last);
+        let row = latest[lock];
+        if may_take(last, row) {
+            let index = left[thread] - 1;
+            left[thread] = index;
+            latest[lock] = with_count(row, thread, earlier[thread * SLOTS + index]);
+            write_back(&mut cells, last);
+            turn += 1;
+            thread = 0;
+        } else {
+            thread += 1;
+            if thread == THREADS {
+                return Undone { left, cells };
+            }
+        }
     }
     Undone { left, cells }
 }
@@ -372,10 +413,11 @@ pub fn recover(image: &[u64], cells: &mut [u64]) -> Answer
     if has_bad_heads(image) {
         return Answer::BadHead;
     }
-    if has_bad_entries(image) {
+    let present = present_entries(image);
+    if has_bad_entries(image, present) {
         return Answer::BadEntry;
     }
-    let done = undo(image);
+    let done = undo(image, present);
     let left = done.left;
     if has_left(left) {
         return Answer::Cyclic;

@@ -3,9 +3,12 @@ ghost use mathlib.Core.Path.{_≡_};
 ghost use Rattle.machine.specs.Holds.{startOf};
 ghost use Rattle.replay.specs.Replay.{stepsOf, runOf, replayOf};
 use answer::Answer;
+use log::IMAGE_WORDS;
 use machine::Machine;
 use machine::Stepped;
 use recovery::recover;
+use sizes::CELLS;
+use step::step;
 
 // Takes steps of four words each (kind, thread, place, value) from a start: the last answer, beside the machine after them. A last
 // step that is cut short is not taken.
@@ -19,7 +22,13 @@ pub fn run(start: &[u64], steps: &[u64]) -> Stepped
     let mut done = 0;
     while done < count {
         let at = done * 4;
-        let stepped = machine.step(steps[at], steps[at + 1], steps[at + 2], steps[at + 3]);
+        let stepped = step(
+            machine,
+            steps[at],
+            steps[at + 1],
+            steps[at + 2],
+            steps[at + 3],
+        );
         answer = stepped.answer;
         machine = stepped.machine;
         done += 1;
@@ -33,10 +42,10 @@ pub fn replay(start: &[u64], steps: &[u64], image: &mut [u64], cells: &mut [u64]
     ensures { λ r. ⌜ record { answer = r; image = now (image .exit); cells = now (cells .exit) } ≡
         replayOf (now (start .entry)) (now (steps .entry)) (now (image .entry)) (now (cells .entry)) ⌝ }
 {
-    if image.len() != 1156 {
+    if image.len() != IMAGE_WORDS {
         return Answer::WrongLength;
     }
-    if cells.len() != 128 {
+    if cells.len() != CELLS {
         return Answer::WrongLength;
     }
     let stepped = run(start, steps);

@@ -5,12 +5,8 @@ ghost use lib.Dec.{eqb};
 ghost use Rattle.answer.specs.Lists.{someBelow};
 ghost use Rattle.ring.specs.Ring.{slotOf, nextSlotOf, liveOf, isReleasing, isReleasingLock, closedBy, growOf, flushedTail, fencedTail, releasedTail};
 use answer::Answer;
-
-// The slots of a log.
-pub const SLOTS: usize = 64;
-
-// The last LSN that a log gives.
-pub const LAST_LSN: u32 = 1000000;
+use sizes::LAST_LSN;
+use sizes::SLOTS;
 
 // A log sequence number (document 01: rank), 1 to 1,000,000 in one thread's log. Never added to or compared with a lock's count.
 pub struct Lsn(pub u32);
@@ -205,7 +201,7 @@ pub fn append(tail: &mut Tail, head: Lsn, closes: Releasing) -> Answer
     done.answer
 }
 
-// The same for whoever holds the record by value: `append`'s answer, beside the record after it.
+// An append for whoever holds the record by value: `append`'s answer, beside the record after it.
 pub fn append_to(before: Tail, head: Lsn, closes: Releasing) -> Grown
     ensures { λ r. ⌜ r ≡ growOf before (head .0) closes ⌝ }
 {

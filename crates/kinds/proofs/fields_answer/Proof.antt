@@ -1,8 +1,8 @@
 -- `kinds::fields_answer` meets its contract.
 use Prim.Native.Nat.{_<_, _≤_}
 use borrow.Author.Tests.{lt-ltb, le-ltb}
+use Rattle.sizes.specs.Sizes.{threadCount}
 use Rattle.answer.specs.Refusals.{unless, firstRefusal}
-use Rattle.kinds.specs.Kinds.{threadCount}
 use Rattle.kinds.proofs.fields_answer.Statement.{statement}
 use Rattle.kinds.proofs.fields_answer.Tie as tie
 

@@ -1,6 +1,7 @@
 -- `recovery::entry_of` meets its contract.
 use mathlib.Core.Path.{ap, _∙_}
 use borrow.Author.Needs.{needs}
+use Rattle.ring.specs.declared.Lsn.{Lsn}
 use Rattle.recovery.specs.Undo.{StoredLog}
 use Rattle.recovery.specs.Reading.{entryIn}
 use Rattle.recovery.proofs.LogsRead.{log-read}
@@ -21,7 +22,7 @@ returns c =
     let a = c .before .before .before .before .args in
     c .read-entry .ensures
     ∙ ap (λ (log : StoredLog). entryIn log (a .index))
-    (log-read (a .image .now) (a .thread) (search needs) (c .before .before .stretch .ensures) (c .before .head-of .ensures))
+    (log-read (a .image .now) (a .thread) (search needs) (c .before .before .stretch .ensures) (ap (λ (head : Lsn). head .0) (c .before .head-of .ensures)))
 
 pub entry-of-spec : {M : Type 1} → statement M
 entry-of-spec = tie.close (tie.spec stretch-requires head-of-requires read-entry-requires returns)

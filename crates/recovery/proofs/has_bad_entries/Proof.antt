@@ -1,20 +1,24 @@
 -- `recovery::has_bad_entries` meets its contract. The loop's invariant: no thread before `thread` has a bad entry.
-use Prim.Native.Nat.{_-_}
-use mathlib.Core.Path.{_≡_, sym, ap, _∙_}
+use Prim.Native.Nat.{ℕ, _-_, _<_}
+use mathlib.Core.Path.{_≡_, sym, ap, ap₂, _∙_}
+use mathlib.Core.List.{List}
 use borrow.Author.Needs.{needs}
-use Rattle.recovery.specs.Undo.{threadCount}
+use Rattle.sizes.specs.Sizes.{threadCount}
+use Rattle.answer.specs.Lists.{someBelow}
+use Rattle.ring.specs.declared.Lsn.{Lsn}
+use Rattle.recovery.specs.Undo.{StoredLog, leftOf}
 use Rattle.recovery.specs.Recover.{hasBadEntry}
-use Rattle.recovery.specs.Reading.{logIn}
-use Rattle.recovery.proofs.LogsRead.{log-read}
+use Rattle.recovery.specs.Reading.{logIn, entryIn, isBad}
+use Rattle.recovery.proofs.LogsRead.{start-left, log-read}
 use Rattle.recovery.proofs.Searches.{Searched, search-starts, search-on, search-finds, search-ends}
 use Rattle.recovery.proofs.has_bad_entries.Statement.{statement}
 use Rattle.recovery.proofs.has_bad_entries.Tie as tie
 
 abbrev Inv-loop : tie.InvT-loop
-Inv-loop image thread₀ thread = Searched threadCount (λ t. hasBadEntry (logIn image t)) thread
+Inv-loop image present thread₀ thread = Searched threadCount (λ t. hasBadEntry (logIn image t)) thread
 
 abbrev μ-loop : tie.MeasureT-loop
-μ-loop image thread₀ thread = threadCount - thread
+μ-loop image present thread₀ thread = threadCount - thread
 
 loop-holds : tie.Need-loop-holds Inv-loop μ-loop
 loop-holds c = search-starts
@@ -25,6 +29,12 @@ stretch-requires c κs = search needs
 head-of-requires : tie.Need-head-of-requires Inv-loop μ-loop
 head-of-requires c κs = search needs
 
+mul-has-bad-entry : tie.Need-mul-has-bad-entry Inv-loop μ-loop
+mul-has-bad-entry c = search needs
+
+array-read-has-bad-entry : tie.Need-array-read-has-bad-entry Inv-loop μ-loop
+array-read-has-bad-entry c = search needs
+
 has-bad-entry-requires : tie.Need-has-bad-entry-requires Inv-loop μ-loop
 has-bad-entry-requires c κs = search needs
 
@@ -32,11 +42,19 @@ has-bad-entry-requires c κs = search needs
 tested : (c : tie.After-has-bad-entry Inv-loop μ-loop)
     → let l = c .before .before .before .before in
     hasBadEntry (logIn (l .before .before .args .image .now) (l .loop .thread)) ≡ c .has-bad-entry .result
+unfolding hasBadEntry
 tested c =
     let l = c .before .before .before .before in
+    let image = l .before .before .args .image .now in
+    let inside : l .loop .thread < threadCount = search needs in
+    let log = logIn image (l .loop .thread) in
+    let present = ap (λ (counts : List ℕ). leftOf counts (l .loop .thread)) (l .before .before .pre .1) ∙ start-left image (l .loop .thread) inside in
+    let read =
+    log-read image (l .loop .thread) inside (c .before .before .stretch .ensures)
+    (ap (λ (head : Lsn). head .0) (c .before .head-of .ensures)) in
     sym
     (c .has-bad-entry .ensures
-    ∙ ap hasBadEntry (log-read (l .before .before .args .image .now) (l .loop .thread) (search needs) (c .before .before .stretch .ensures) (c .before .head-of .ensures)))
+    ∙ ap₂ (λ (count : ℕ) (read : StoredLog). someBelow count (λ index. isBad (entryIn read index))) present read)
 
 returns : tie.Need-returns Inv-loop μ-loop
 returns c =
@@ -64,6 +82,8 @@ has-bad-entries-spec =
     loop-holds
     stretch-requires
     head-of-requires
+    mul-has-bad-entry
+    array-read-has-bad-entry
     has-bad-entry-requires
     returns
     add-thread

@@ -1,28 +1,17 @@
 -- `recovery::has_bad_entry` meets its contract. The loop's invariant: no entry before `index` is bad.
-use Prim.Native.Nat.{ℕ, _-_}
+use Prim.Native.Nat.{_-_}
 use mathlib.Core.Path.{_≡_, sym, _∙_}
-use mathlib.Core.Bool.{Bool}
 use borrow.Author.Needs.{needs}
-use Rattle.answer.specs.Lists.{someBelow}
-use Rattle.recovery.specs.Undo.{StoredLog, entryKind, entryPlace, entryValue}
-use Rattle.recovery.specs.Recover.{isBadEntry, hasBadEntry}
-use Rattle.recovery.specs.Reading.{logOf}
+use Rattle.recovery.specs.Reading.{logOf, entryIn, isBad}
 use Rattle.recovery.proofs.Searches.{Searched, search-starts, search-on, search-finds, search-ends}
 use Rattle.recovery.proofs.has_bad_entry.Statement.{statement}
 use Rattle.recovery.proofs.has_bad_entry.Tie as tie
 
--- the entry that has so many before it is bad
-abbrev badAt : StoredLog → ℕ → Bool
-badAt log index = isBadEntry (entryKind log index) (entryPlace log index) (entryValue log index)
-
 abbrev Inv-loop : tie.InvT-loop
-Inv-loop stretch head present index₀ index = Searched present (badAt (logOf stretch head)) index
+Inv-loop stretch head present index₀ index = Searched present (λ place. isBad (entryIn (logOf stretch (head .0)) place)) index
 
 abbrev μ-loop : tie.MeasureT-loop
 μ-loop stretch head present index₀ index = present - index
-
-present-requires : tie.Need-present-requires Inv-loop μ-loop
-present-requires c κs = search needs
 
 loop-holds : tie.Need-loop-holds Inv-loop μ-loop
 loop-holds c = search-starts
@@ -35,20 +24,12 @@ is-bad-entry-requires c κs = search needs
 
 -- what the test found is what the definition says
 tested : (c : tie.After-is-bad-entry Inv-loop μ-loop)
-    → let l = c .before .before .before in badAt (logOf (l .before .before .before .args .stretch .now) (l .before .before .before .args .head)) (l .loop .index) ≡ c .is-bad-entry .result
+    → let l = c .before .before .before in
+    isBad (entryIn (logOf (l .before .before .args .stretch .now) (l .before .before .args .head .0)) (l .loop .index)) ≡ c .is-bad-entry .result
 tested c = sym (c .is-bad-entry .ensures ∙ rw (c .before .read-entry .ensures))
 
--- the loop's bound is the definition's
-whole : (c : tie.At-loop Inv-loop μ-loop)
-    → let log = logOf (c .before .before .before .args .stretch .now) (c .before .before .before .args .head) in
-    someBelow (c .before .present .result) (badAt log) ≡ hasBadEntry log
-unfolding hasBadEntry
-whole c = rw (c .before .present .ensures)
-
 returns : tie.Need-returns Inv-loop μ-loop
-returns c =
-    let l = c .before .before .before .before in
-    search-finds (l .loop .inv) (search needs) (tested (c .before) ∙ c .if1 .taken) ∙ whole l
+returns c = search-finds (c .before .before .before .before .loop .inv) (search needs) (tested (c .before) ∙ c .if1 .taken)
 
 add-index : tie.Need-add-index Inv-loop μ-loop
 add-index c = search needs
@@ -61,7 +42,7 @@ loop-again c =
     search-on (c .before .before .before .before .loop .inv) (search needs) (tested (c .before) ∙ c .if1 .left)
 
 returns-2 : tie.Need-returns-2 Inv-loop μ-loop
-returns-2 c = search-ends (c .before .loop .inv) (search needs) ∙ whole (c .before)
+returns-2 c = search-ends (c .before .loop .inv) (search needs)
 
 pub has-bad-entry-spec : {M : Type 1} → statement M
 has-bad-entry-spec =
@@ -69,7 +50,6 @@ has-bad-entry-spec =
     (tie.spec
     Inv-loop
     μ-loop
-    present-requires
     loop-holds
     read-entry-requires
     is-bad-entry-requires

@@ -2,7 +2,7 @@
 use Prim.Native.Nat.{_-_}
 use mathlib.Core.Path.{_≡_, sym, _∙_}
 use borrow.Author.Needs.{needs}
-use Rattle.recovery.specs.Undo.{threadCount}
+use Rattle.sizes.specs.Sizes.{threadCount}
 use Rattle.recovery.specs.Recover.{isBadHead}
 use Rattle.recovery.specs.Reading.{logIn}
 use Rattle.recovery.proofs.Searches.{Searched, search-starts, search-on, search-finds, search-ends}
@@ -18,8 +18,8 @@ abbrev μ-loop : tie.MeasureT-loop
 loop-holds : tie.Need-loop-holds Inv-loop μ-loop
 loop-holds c = search-starts
 
-head-of-requires : tie.Need-head-of-requires Inv-loop μ-loop
-head-of-requires c κs = search needs
+head-word-requires : tie.Need-head-word-requires Inv-loop μ-loop
+head-word-requires c κs = search needs
 
 is-bad-head-requires : tie.Need-is-bad-head-requires Inv-loop μ-loop
 is-bad-head-requires c κs = search needs
@@ -29,7 +29,7 @@ tested : (c : tie.After-is-bad-head Inv-loop μ-loop)
     → let l = c .before .before .before in
     isBadHead (logIn (l .before .before .args .image .now) (l .loop .thread)) ≡ c .is-bad-head .result
 unfolding isBadHead
-tested c = sym (c .is-bad-head .ensures ∙ rw (c .before .head-of .ensures))
+tested c = sym (c .is-bad-head .ensures ∙ rw (c .before .head-word .ensures))
 
 returns : tie.Need-returns Inv-loop μ-loop
 returns c =
@@ -55,7 +55,7 @@ has-bad-heads-spec =
     Inv-loop
     μ-loop
     loop-holds
-    head-of-requires
+    head-word-requires
     is-bad-head-requires
     returns
     add-thread

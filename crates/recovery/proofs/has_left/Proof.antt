@@ -3,7 +3,8 @@ use Prim.Native.Nat.{_-_}
 use lib.Dec.{ltb}
 use borrow.Author.Tests.{lt-ltb, le-ltb}
 use borrow.Author.Needs.{needs}
-use Rattle.recovery.specs.Undo.{threadCount, leftOf}
+use Rattle.sizes.specs.Sizes.{threadCount}
+use Rattle.recovery.specs.Undo.{leftOf}
 use Rattle.recovery.proofs.Searches.{Searched, search-starts, search-on, search-finds, search-ends}
 use Rattle.recovery.proofs.has_left.Statement.{statement}
 use Rattle.recovery.proofs.has_left.Tie as tie

@@ -1,25 +1,24 @@
--- `recovery::head_of` meets its contract.
-use mathlib.Core.Path.{sym, ap}
+-- `recovery::head_of` meets its contract: a head that test 22 let pass fits an LSN.
+use mathlib.Core.Path.{ap}
 use native.Mathlib.Omega.{arith}
 use borrow.Author.Needs.{needs}
-use Rattle.recovery.specs.Undo.{StoredLog}
-use Rattle.recovery.proofs.LogsRead.{log-in}
+use Rattle.ring.specs.Ring.{lsn}
+use Rattle.recovery.specs.Reading.{logIn}
+use Rattle.recovery.proofs.GoodEntries.{good-head}
 use Rattle.recovery.proofs.head_of.Statement.{statement}
 use Rattle.recovery.proofs.head_of.Tie as tie
 
-add-result : tie.Need-add-result
-add-result c = search needs
+head-word-requires : tie.Need-head-word-requires
+head-word-requires c κs = search needs
 
-mul-result : tie.Need-mul-result
-mul-result c = search needs
-
-shared-slice-read-result : tie.Need-shared-slice-read-result
-shared-slice-read-result c = search needs
+cast-t4 : tie.Need-cast-t4
+cast-t4 c =
+    let a = c .before .before .args in
+    let head = good-head (logIn (a .image .now) (a .thread)) (c .before .before .pre .0 .heads (a .thread) (c .before .before .pre .1)) in
+    omega (arith, c .head-word .ensures, head)
 
 returns : tie.Need-returns
-returns c =
-    let a = c .before .args in
-    sym (ap (λ (log : StoredLog). log .head) (log-in (a .image .now) (a .thread) (omega arith)))
+returns c = ap lsn (c .head-word .ensures)
 
 pub head-of-spec : {M : Type 1} → statement M
-head-of-spec = tie.close (tie.spec add-result mul-result shared-slice-read-result returns)
+head-of-spec = tie.close (tie.spec head-word-requires cast-t4 returns)

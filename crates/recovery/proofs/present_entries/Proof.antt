@@ -2,8 +2,10 @@
 use Prim.Native.Nat.{_-_}
 use mathlib.Core.Path.{sym, ap, _∙_}
 use borrow.Author.Needs.{needs}
-use Rattle.recovery.specs.Undo.{threadCount, undoStart}
-use Rattle.recovery.proofs.LogsRead.{presentIn, start-long, start-left, log-read}
+use Rattle.sizes.specs.Sizes.{threadCount}
+use Rattle.ring.specs.declared.Lsn.{Lsn}
+use Rattle.recovery.specs.Undo.{presentIn, undoStart}
+use Rattle.recovery.proofs.LogsRead.{start-long, start-left, log-read}
 use Rattle.recovery.proofs.Writes.{Written, write-starts, write-on, write-ends}
 use Rattle.recovery.proofs.present_entries.Statement.{statement}
 use Rattle.recovery.proofs.present_entries.Tie as tie
@@ -23,6 +25,9 @@ stretch-requires c κs = search needs
 head-of-requires : tie.Need-head-of-requires Inv-loop μ-loop
 head-of-requires c κs = search needs
 
+cast-present : tie.Need-cast-present Inv-loop μ-loop
+cast-present c = search needs
+
 present-requires : tie.Need-present-requires Inv-loop μ-loop
 present-requires c κs = search needs
 
@@ -40,11 +45,14 @@ loop-less c = search needs
 
 loop-again : tie.Need-loop-again Inv-loop μ-loop
 loop-again c =
-    let l = c .before .before .before .before in
+    let l = c .before .before .before .before .before in
     let a = l .before .before .args in
     write-on (l .loop .inv) (search needs)
     (start-left (a .image .now) (l .loop .thread) (search needs)
-    ∙ ap presentIn (sym (log-read (a .image .now) (l .loop .thread) (search needs) (c .before .before .stretch .ensures) (c .before .head-of .ensures)))
+    ∙ ap presentIn
+    (sym
+    (log-read (a .image .now) (l .loop .thread) (search needs) (c .before .before .before .stretch .ensures)
+    (ap (λ (head : Lsn). head .0) (c .before .before .head-of .ensures))))
     ∙ sym (c .present .ensures))
 
 returns : tie.Need-returns Inv-loop μ-loop
@@ -59,6 +67,7 @@ present-entries-spec =
     loop-holds
     stretch-requires
     head-of-requires
+    cast-present
     present-requires
     mul-left
     array-write-left

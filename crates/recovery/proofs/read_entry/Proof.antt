@@ -7,6 +7,9 @@ use Rattle.ring.specs.Ring.{slotOf}
 use Rattle.recovery.proofs.read_entry.Statement.{statement}
 use Rattle.recovery.proofs.read_entry.Tie as tie
 
+cast-number : tie.Need-cast-number
+cast-number c = search needs
+
 add-number : tie.Need-add-number
 add-number c = search needs
 
@@ -21,10 +24,11 @@ word-requires-3 c κs = search needs
 
 returns : tie.Need-returns
 returns c =
-    let a = c .before .before .before .before .args in
-    let same : slotOf (a .head % 64 + a .index % 64) ≡ slotOf (a .head + a .index) = omega arith in
+    let a = c .before .before .before .before .before .args in
+    let same : slotOf (a .head .0 + a .index % 64) ≡ slotOf (a .head .0 + a .index) = omega arith in
     rw (c .before .before .word .ensures, c .before .word2 .ensures, c .word3 .ensures, same)
 
 pub read-entry-spec : {M : Type 1} → statement M
 read-entry-spec =
-    tie.close (tie.spec add-number word-requires word-requires-2 word-requires-3 returns)
+    tie.close
+    (tie.spec cast-number add-number word-requires word-requires-2 word-requires-3 returns)

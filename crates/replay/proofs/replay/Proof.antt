@@ -5,9 +5,8 @@ use mathlib.Core.List.{List, [], _∷_}
 use lib.ListN.{length}
 use borrow.Author.Tests.{eq-eqb, ne-eqb}
 use denote.Ref
-use Rattle.answer.specs.Refusals.{unless, Outcome}
-use Rattle.answer.specs.declared.Answer.the-variants.{Accepted}
-use Rattle.machine.specs.Image.{imageOf, cutOf}
+use Rattle.answer.specs.Refusals.{Outcome}
+use Rattle.machine.specs.Image.{cutOf}
 use Rattle.machine.specs.declared.Machine.{Machine}
 use Rattle.recovery.specs.Recover.{recoverOf}
 use Rattle.machine.specs.Runs.{Step, stepWith, after, Reached}
@@ -15,7 +14,7 @@ use Rattle.machine.specs.declared.Stepped.{Stepped}
 use Rattle.machine.proofs.Reaching.{start-reached, step-reached}
 use Rattle.replay.specs.Replay.{stepsOf, replayOf, runOf}
 use Rattle.atomicity.specs.History.{machineAfter}
-use Rattle.atomicity.proofs.Demand3Holds.{cut-recovers}
+use Rattle.atomicity.proofs.Demand3Holds.{cut-writes, cut-recovers}
 use borrow.Author.Needs.{needs}
 use Rattle.replay.proofs.replay.Statement.{statement}
 use Rattle.replay.proofs.replay.Tie as tie
@@ -43,14 +42,15 @@ replayed :
     cut ≡ cutOf machine image →
     found ≡ recoverOf (cut .buffer) cells →
     record { answer = found .answer; image = cut .buffer; cells = found .buffer } ≡ replayOf words steps image cells
-unfolding replayOf cutOf unless
+unfolding replayOf
 replayed words steps image cells machine isAfter imageLong cellsLong cut found isCut isFound =
-    let claim = cut-recovers words (stepsOf steps) cells cellsLong in
-    let whole = eq-eqb (length image) 1156 imageLong in
-    let final = imageOf (machineAfter words (stepsOf steps)) in
-    let written : cut ≡ record { answer = Accepted 0; buffer = final } = isCut ∙ rw (isAfter, whole) in
-    let recovered : found ≡ recoverOf final cells = isFound ∙ rw written in
-    rw (recovered, written, whole, eq-eqb (length cells) 128 cellsLong, claim .accepts, claim .cells)
+    let final = machineAfter words (stepsOf steps) in
+    let claim = cut-recovers words (stepsOf steps) image cells imageLong cellsLong in
+    let lent : cut ≡ cutOf final image = isCut ∙ rw isAfter in
+    let recovered : found ≡ recoverOf (cutOf final image .buffer) cells = isFound ∙ rw lent in
+    let imageWhole = eq-eqb (length image) 1156 imageLong in
+    let cellsWhole = eq-eqb (length cells) 128 cellsLong in
+    rw (recovered, lent, imageWhole, cellsWhole, claim .accepts, claim .cells, cut-writes final image imageLong)
 
 returns : tie.Need-returns
 unfolding replayOf

@@ -1,0 +1,12 @@
+-- The table of edges holds.
+use lib.Dec.{T}
+use Rattle.atomicity.specs.Points.{numbered, lent, answered, outcome, recovered, emptyImage, withEntry, makes, tangled}
+use Rattle.atomicity.specs.Edges.{asks, takes, given, fromRank, zeroCells, around, logs127, closes7, released7, inputRows, closing, firm5, ranks62, stateRows, follows, prunes, inTurn, writesAgain, nested, pruneRows, asksAlong, crowded, runsOut, appends, roomRows, worked, turns, afterTurns, refusals, givenRows, stored, keeps, frees, keptRows, started, untouched, words, logsUnder6, evicts, striped, imageRows, logs, alone, withHead, full, waitsForNone, waitsFor3, recoveries, recoveryRows, edges, Edges}
+use Rattle.atomicity.proofs.Rows.{allGiven, rows-hold}
+
+edges-given : T (allGiven edges)
+unfolding allGiven numbered lent answered outcome recovered emptyImage withEntry makes tangled asks takes given fromRank zeroCells around logs127 closes7 released7 inputRows closing firm5 ranks62 stateRows follows prunes inTurn writesAgain nested pruneRows asksAlong crowded runsOut appends roomRows worked turns afterTurns refusals givenRows stored keeps frees keptRows started untouched words logsUnder6 evicts striped imageRows logs alone withHead full waitsForNone waitsFor3 recoveries recoveryRows edges
+edges-given = tt
+
+pub edges-hold : Edges
+edges-hold = rows-hold edges edges-given

@@ -1,0 +1,2 @@
+-- The sizes that several crates' definitions share.
+pub mod Sizes

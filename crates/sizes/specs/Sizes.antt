@@ -1,0 +1,10 @@
+-- How many threads and locks there are.
+use Prim.Native.Nat.{ℕ}
+
+-- "4 threads (0 to 3)"
+abbrev pub threadCount : ℕ
+threadCount = 4
+
+-- "8 locks (0 to 7)"
+abbrev pub lockCount : ℕ
+lockCount = 8
