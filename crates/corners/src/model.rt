@@ -5,7 +5,7 @@
 // `corners` compares answers, numbers given, whole images and recovered cells with the machine's. Every function here is proved to be safe
 // and to end; nothing else is promised of it.
 mod cells;
-mod history;
+pub(crate) mod history;
 mod image;
 mod logs;
 mod order;
@@ -36,6 +36,11 @@ pub(crate) fn judge(
         answer,
         number: steps::given(start, past, kind, thread, place),
     }
+}
+
+// After a history, the thread has 64 live entries.
+pub(crate) fn has_full_log(past: &[u64], thread: u64) -> bool {
+    steps::is_full(past, thread, history::next_step(past))
 }
 
 // Writes the image of a cut after a history; 21, and the buffer as it was, where it is not of 1,156 words.

@@ -5,10 +5,10 @@ use Rattle.corners.proofs.listings_alike.Statement.{statement}
 use Rattle.corners.proofs.listings_alike.Tie as tie
 
 abbrev Inv-loop : tie.InvT-loop
-Inv-loop alike₀ listing₀ alike listing = listing ≤ 200
+Inv-loop met₀ alike₀ listing₀ met alike listing = listing ≤ 200
 
 abbrev μ-loop : tie.MeasureT-loop
-μ-loop alike₀ listing₀ alike listing = 200 - listing
+μ-loop met₀ alike₀ listing₀ met alike listing = 200 - listing
 
 loop-holds : tie.Need-loop-holds Inv-loop μ-loop
 loop-holds c = search needs
@@ -18,6 +18,9 @@ generated-requires c κs = search needs
 
 slice-aggregate-run-alike : tie.Need-slice-aggregate-run-alike Inv-loop μ-loop
 slice-aggregate-run-alike c = search needs
+
+add-run-alike : tie.Need-add-run-alike Inv-loop μ-loop
+add-run-alike c = search needs
 
 run-alike-requires : tie.Need-run-alike-requires Inv-loop μ-loop
 run-alike-requires c κs = search needs
@@ -46,6 +49,7 @@ listings-alike-spec =
     loop-holds
     generated-requires
     slice-aggregate-run-alike
+    add-run-alike
     run-alike-requires
     add-alike
     add-listing

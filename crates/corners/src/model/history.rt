@@ -26,10 +26,11 @@ pub(crate) const EVICT: u64 = 11;
 
 pub(crate) const EVICTLOG: u64 = 12;
 
-// Two more kinds to look for: a step that makes an entry (LOG, ACQUIRE or LOGREL), and a STORE to any cell of the line that is the place.
-pub(crate) const ENTRY: u64 = 13;
+// Two more kinds to look for, which no step has that is tried: a step that makes an entry (LOG, ACQUIRE or LOGREL), and a STORE to any cell
+// of the line that is the place.
+pub(crate) const ENTRY: u64 = 1001;
 
-pub(crate) const STORE_IN_LINE: u64 = 14;
+pub(crate) const STORE_IN_LINE: u64 = 1002;
 
 // Looked for as thread or place, it fits every step: no accepted step has it there.
 pub(crate) const ANY: u64 = 18446744073709551615;

@@ -77,7 +77,7 @@ fn ranks_given(past: &[u64], thread: u64, step: usize) -> bool {
 }
 
 // 5: 64 live entries.
-fn is_full(past: &[u64], thread: u64, step: usize) -> bool {
+pub(crate) fn is_full(past: &[u64], thread: u64, step: usize) -> bool {
     let head = logs::head(past, thread, step);
     64 <= history::count(past, history::ENTRY, thread, ANY, head, step)
 }

@@ -1,9 +1,9 @@
--- `corners::same` is safe and ends.
+-- `corners::alike::same` is safe and ends.
 use Prim.Native.Nat.{_-_, _≤_}
 use lib.ListN.{length}
 use borrow.Author.Needs.{needs}
-use Rattle.corners.proofs.same.Statement.{statement}
-use Rattle.corners.proofs.same.Tie as tie
+use Rattle.corners.proofs.alike.same.Statement.{statement}
+use Rattle.corners.proofs.alike.same.Tie as tie
 
 abbrev Inv-loop : tie.InvT-loop
 Inv-loop one other i₀ i = i ≤ length one

@@ -1,0 +1,273 @@
+// The machine and the model, side by side.
+ghost use mathlib.Core.Path.{_≡_};
+ghost use lib.ListN.{length};
+ghost use Rattle.machine.specs.Runs.{Reached};
+use crate::damage::damage;
+use crate::listings::STEPS;
+use crate::listings::Step;
+use crate::listings::next;
+use crate::listings::put;
+use crate::listings::step_of;
+use crate::model;
+use crate::tally;
+use crate::tally::COUNTS;
+use answer::Answer;
+use machine::Machine;
+use step::step;
+
+// What every cell holds at the start.
+const START: u64 = 4294967291;
+
+// What a lent buffer holds before a recovery.
+const UNTOUCHED: u64 = 4294967279;
+
+// No answer of recovery: the machine's and the model's are not the same.
+const DIFFERENT: u64 = 99;
+
+// The two lists are the same.
+fn same(one: &[u64], other: &[u64]) -> bool {
+    if one.len() != other.len() {
+        return false;
+    }
+    let mut i = 0;
+    while i < one.len() {
+        if one[i] != other[i] {
+            return false;
+        }
+        i += 1;
+    }
+    true
+}
+
+// Adds a step to the accepted ones, where its answer says so and there is room; answers how many they are.
+fn push(past: &mut [u64], accepted: usize, answer: Answer, step: Step) -> usize {
+    if answer::number(answer) != 0 {
+        return accepted;
+    }
+    if accepted < STEPS {
+        put(past, accepted, step);
+        return accepted + 1;
+    }
+    accepted
+}
+
+// Counts a step's answer; and a LOG's that is refused by 8 beside a full log.
+fn note(met: &mut [u64; COUNTS], past: &[u64], kind: u64, thread: u64, answer: u64) {
+    tally::add_answer(met, kind, answer);
+    if kind == 2 && answer == 8 {
+        if model::has_full_log(past, thread) {
+            tally::add_crowded(met);
+        }
+    }
+}
+
+// The model judges the step after this history as the machine did.
+fn judged(past: &[u64], step: Step, answer: Answer, met: &mut [u64; COUNTS]) -> bool {
+    let start = [START; 128];
+    let number = answer::number(answer);
+    note(met, past, step.kind, step.thread, number);
+    let verdict = model::judge(&start, past, step.kind, step.thread, step.place, step.value);
+    verdict.answer == number && verdict.number == answer::value(answer)
+}
+
+// The same, where the history is the first accepted steps of a list.
+fn judged_alike(
+    past: &[u64],
+    accepted: usize,
+    step: Step,
+    answer: Answer,
+    met: &mut [u64; COUNTS],
+) -> bool {
+    if past.len() / 4 < accepted {
+        return false;
+    }
+    let end = accepted * 4;
+    judged(&past[..end], step, answer, met)
+}
+
+// The answer of both recoveries of the image into these buffers, where they give the same one and leave the same words.
+fn recovered_into(image: &[u64], cells: &mut [u64], others: &mut [u64]) -> u64 {
+    let answer = recovery::recover(image, cells);
+    let number = model::recover(image, others);
+    if answer::number(answer) != number {
+        return DIFFERENT;
+    }
+    if same(cells, others) {
+        return number;
+    }
+    DIFFERENT
+}
+
+// The answer of both recoveries of the image.
+fn recovered(image: &[u64]) -> u64 {
+    let mut cells = [UNTOUCHED; 128];
+    let mut others = [UNTOUCHED; 128];
+    recovered_into(image, &mut cells, &mut others)
+}
+
+// The same with buffers that are a word too short.
+fn recovered_short(image: &[u64]) -> u64 {
+    let mut cells = [UNTOUCHED; 127];
+    let mut others = [UNTOUCHED; 127];
+    recovered_into(image, &mut cells, &mut others)
+}
+
+// The same with buffers that are a word too long.
+fn recovered_long(image: &[u64]) -> u64 {
+    let mut cells = [UNTOUCHED; 129];
+    let mut others = [UNTOUCHED; 129];
+    recovered_into(image, &mut cells, &mut others)
+}
+
+// The same, now and then with a buffer that is a word too short or too long.
+fn recovered_somehow(image: &[u64], chance: u64) -> u64 {
+    if chance % 32 == 0 {
+        return recovered_short(image);
+    }
+    if chance % 32 == 1 {
+        return recovered_long(image);
+    }
+    recovered(image)
+}
+
+// The same of an image's first words.
+fn recovered_part(image: &[u64], words: usize, chance: u64) -> u64 {
+    if image.len() < words {
+        return DIFFERENT;
+    }
+    recovered_somehow(&image[..words], chance)
+}
+
+// An image's length, or now and then a word less or more.
+fn image_words(chance: u64) -> usize {
+    if chance % 32 == 0 {
+        return 1155;
+    }
+    if chance % 32 == 1 {
+        return 1157;
+    }
+    1156
+}
+
+// The image and one word more.
+fn widened(image: &[u64; 1156]) -> [u64; 1157]
+    ensures { λ r. ⌜ 1157 ≡ length r ⌝ }
+{
+    let mut wide = [0u64; 1157];
+    let mut word = 0;
+    while word < 1156 {
+        wide[word] = image[word];
+        word += 1;
+    }
+    wide
+}
+
+// The answer of both recoveries of the image once it is damaged.
+fn recovered_damaged(image: &[u64; 1156], chance: u64) -> u64 {
+    let mut wide = widened(image);
+    damage(&mut wide, chance);
+    let other = next(chance);
+    recovered_part(&wide, image_words(other / 7), other / 3)
+}
+
+// The machine's image is the model's after this history.
+fn is_image(image: &[u64], past: &[u64]) -> bool {
+    let start = [START; 128];
+    let mut other = [0u64; 1156];
+    model::cut(&start, past, &mut other);
+    same(image, &other)
+}
+
+// The same, where the history is the first accepted steps of a list.
+fn image_alike(image: &[u64], past: &[u64], accepted: usize) -> bool {
+    if past.len() / 4 < accepted {
+        return false;
+    }
+    let end = accepted * 4;
+    is_image(image, &past[..end])
+}
+
+// Counts an answer of recovery, and says whether it is one.
+fn noted(met: &mut [u64; COUNTS], is_damaged: bool, answer: u64) -> bool {
+    if answer == DIFFERENT {
+        return false;
+    }
+    tally::add_recovered(met, is_damaged, answer);
+    true
+}
+
+// The machine's image of a cut is the model's, and both recover it alike, as it is and damaged.
+fn cut_alike(
+    image: &[u64; 1156],
+    past: &[u64],
+    accepted: usize,
+    chance: u64,
+    met: &mut [u64; COUNTS],
+) -> bool {
+    if !image_alike(image, past, accepted) {
+        return false;
+    }
+    if !noted(met, false, recovered(image)) {
+        return false;
+    }
+    noted(met, true, recovered_damaged(image, chance))
+}
+
+// The same of every fifth cut, damaged by chance; the others are not looked at.
+fn fifth_alike(
+    number: usize,
+    seed: u64,
+    image: &[u64; 1156],
+    past: &[u64],
+    accepted: usize,
+    met: &mut [u64; COUNTS],
+) -> bool {
+    if number % 5 == 0 {
+        let chance = next(seed % 1000000 * 1000 + (number % 1000) as u64);
+        return cut_alike(image, past, accepted, next(chance), met);
+    }
+    true
+}
+
+// The image of a cut of the machine.
+fn image_of(machine: Machine) -> [u64; 1156]
+    requires { ⌜ Reached machine ⌝ }
+{
+    let mut image = [0u64; 1156];
+    machine.cut(&mut image);
+    image
+}
+
+// The machine and the model take the steps alike, cut before every fifth of them and after the last.
+pub(crate) fn run_alike(steps: &[u64], seed: u64, met: &mut [u64; COUNTS]) -> bool {
+    let start = [START; 128];
+    let started = Machine::start(&start);
+    let mut machine = started.machine;
+    let mut past = [0u64; 800];
+    let mut accepted: usize = 0;
+    let count = steps.len() / 4;
+    let mut done = 0;
+    while done < count {
+        let image = image_of(machine);
+        if !fifth_alike(done, seed, &image, &past, accepted, met) {
+            return false;
+        }
+        let wanted = step_of(steps, done);
+        let stepped = step(
+            machine,
+            wanted.kind,
+            wanted.thread,
+            wanted.place,
+            wanted.value,
+        );
+        let answer = stepped.answer;
+        machine = stepped.machine;
+        if !judged_alike(&past, accepted, wanted, answer, met) {
+            return false;
+        }
+        accepted = push(&mut past, accepted, answer, wanted);
+        done += 1;
+    }
+    let last = image_of(machine);
+    fifth_alike(STEPS, seed, &last, &past, accepted, met)
+}

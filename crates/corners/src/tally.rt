@@ -1,0 +1,228 @@
+// How often each answer was met, and the tables of that.
+use crate::model::history;
+
+// The answers to steps, 0 to 18.
+const ANSWERS: usize = 19;
+
+// Where the answers of recovery begin: those to images of cuts, then those to damaged images, five each.
+const RECOVERED: usize = 247;
+
+// The counts: of 13 kinds, "other" among them, times 19 answers; of twice five answers of recovery; and of LOGs that a full log would
+// refuse too.
+pub(crate) const COUNTS: usize = 258;
+
+// The last count.
+const CROWDED: usize = 257;
+
+// Counts one more.
+fn raise(met: &mut [u64; COUNTS], at: usize) {
+    if at < COUNTS {
+        if met[at] < 1000000000 {
+            met[at] += 1;
+        }
+    }
+}
+
+// A count, and 0 where there is none.
+fn count(met: &[u64; COUNTS], at: usize) -> u64 {
+    if at < COUNTS { met[at] } else { 0 }
+}
+
+// A kind's row in the table: 0 to 11 for the kinds 1 to 12, and 12 for any other.
+fn row_of(kind: u64) -> usize {
+    if kind < 1 {
+        return 12;
+    }
+    if 12 < kind {
+        return 12;
+    }
+    (kind - 1) as usize
+}
+
+// Counts a step's answer.
+pub(crate) fn add_answer(met: &mut [u64; COUNTS], kind: u64, answer: u64) {
+    if answer < 19 {
+        raise(met, row_of(kind) % 13 * ANSWERS + answer as usize);
+    }
+}
+
+// Counts a LOG that is refused by 8, where 5 would refuse it too.
+pub(crate) fn add_crowded(met: &mut [u64; COUNTS]) {
+    raise(met, CROWDED);
+}
+
+// Counts an answer of recovery to an image of a cut or to a damaged one; 0 and 21 to 24 are 0 to 4 modulo 5.
+pub(crate) fn add_recovered(met: &mut [u64; COUNTS], is_damaged: bool, answer: u64) {
+    let column = (answer % 5) as usize;
+    if is_damaged {
+        raise(met, RECOVERED + 5 + column);
+    } else {
+        raise(met, RECOVERED + column);
+    }
+}
+
+// The state can have a step of the kind refused by this number.
+fn state_can_refuse(kind: u64, answer: u64) -> bool {
+    if kind == history::LOAD {
+        return answer == 8;
+    }
+    if kind == history::LOG {
+        return 4 < answer && answer < 10;
+    }
+    if kind == history::STORE {
+        return answer == 7 || answer == 10 || answer == 11;
+    }
+    if kind == history::ACQUIRE {
+        return 4 < answer && answer < 8 || answer == 12;
+    }
+    if kind == history::LOGREL {
+        return 4 < answer && answer < 8 || answer == 13;
+    }
+    if kind == history::RELEASE {
+        return answer == 14 || answer == 11;
+    }
+    if kind == history::PRUNE {
+        return answer == 11 || 14 < answer && answer < 18;
+    }
+    kind == history::EVICTLOG && answer == 18
+}
+
+// Document 01 lets a step of the kind be answered so; 13 stands for any kind that is none.
+fn can_answer(kind: u64, answer: u64) -> bool {
+    if 12 < kind {
+        return answer == 1;
+    }
+    if answer == 3 {
+        return kind < history::FLUSHLOG || history::PRUNE < kind;
+    }
+    if answer == 4 {
+        return kind != history::STORE;
+    }
+    answer == 0 || answer == 2 || state_can_refuse(kind, answer)
+}
+
+// The pair of a kind and an answer with this count is one that document 01 lets occur, or does not, and was met, or was not; 6 is left
+// out.
+fn is_such(met: &[u64; COUNTS], at: usize, is_allowed: bool, is_met: bool) -> bool {
+    let answer = (at % ANSWERS) as u64;
+    if answer == 6 {
+        return false;
+    }
+    if can_answer((at / ANSWERS + 1) as u64, answer) != is_allowed {
+        return false;
+    }
+    (0 < count(met, at)) == is_met
+}
+
+// One more where that is so.
+fn one_more(number: u64, is_so: bool) -> u64 {
+    if is_so { number % 1000000 + 1 } else { number }
+}
+
+// How many such pairs there are.
+fn pairs(met: &[u64; COUNTS], is_allowed: bool, is_met: bool) -> u64 {
+    let mut found: u64 = 0;
+    let mut at: usize = 0;
+    while at < RECOVERED {
+        found = one_more(found, is_such(met, at, is_allowed, is_met));
+        at += 1;
+    }
+    found
+}
+
+// Prints a number at the end of six places.
+fn print_number(number: u64) {
+    if number < 10 {
+        io::write_all(1, b"     ");
+    } else if number < 100 {
+        io::write_all(1, b"    ");
+    } else if number < 1000 {
+        io::write_all(1, b"   ");
+    } else if number < 10000 {
+        io::write_all(1, b"  ");
+    } else {
+        io::write_all(1, b" ");
+    }
+    io::print_decimal(1, number);
+}
+
+// Prints eight bytes of a text, from a place on.
+fn print_part(text: &[u8], from: usize) {
+    if text.len() < 8 {
+        return;
+    }
+    if text.len() - 8 < from {
+        return;
+    }
+    let to = from + 8;
+    io::write_all(1, &text[from..to]);
+}
+
+// Prints a row's name, in eight places.
+fn print_name(row: usize) {
+    print_part(
+        b"LOAD    LOG     STORE   ACQUIRE LOGREL  RELEASE FLUSH   FLUSHLOGFENCE   PRUNE   EVICT   EVICTLOGother   ",
+        row % 13 * 8,
+    );
+}
+
+// Prints so many counts from a place on, as a row.
+fn print_counts(met: &[u64; COUNTS], from: usize, columns: usize) {
+    let mut column: usize = 0;
+    while column < columns {
+        print_number(count(met, from % 1000 + column % 1000));
+        column += 1;
+    }
+    io::write_all(1, b"\n");
+}
+
+// Prints the table of kinds against answers.
+fn print_steps(met: &[u64; COUNTS]) {
+    io::write_all(
+        1,
+        b"kind         0     1     2     3     4     5     6     7     8     9",
+    );
+    io::write_all(
+        1,
+        b"    10    11    12    13    14    15    16    17    18\n",
+    );
+    let mut row: usize = 0;
+    while row < 13 {
+        print_name(row);
+        print_counts(met, row % 13 * ANSWERS, ANSWERS);
+        row += 1;
+    }
+}
+
+// Prints the table of recovery's answers.
+fn print_recovered(met: &[u64; COUNTS]) {
+    io::write_all(1, b"recovery     0    21    22    23    24\ncut     ");
+    print_counts(met, RECOVERED, 5);
+    io::write_all(1, b"damaged ");
+    print_counts(met, RECOVERED + 5, 5);
+}
+
+// Prints the tables and what is missing in them.
+pub(crate) fn print(met: &[u64; COUNTS]) {
+    io::write_all(1, b"steps of the generated listings by kind and answer:\n");
+    print_steps(met);
+    io::write_all(1, b"zeros among the ");
+    io::print_decimal(
+        1,
+        pairs(met, true, true) % 1000 + pairs(met, true, false) % 1000,
+    );
+    io::write_all(
+        1,
+        b" pairs that document 01 lets occur, 6 left out, which needs 1,000,000 entries: ",
+    );
+    io::print_decimal(1, pairs(met, true, false));
+    io::write_all(1, b"\nother pairs that were met: ");
+    io::print_decimal(1, pairs(met, false, true));
+    io::write_all(1, b"\nLOGs refused by 8 that 5 would refuse too: ");
+    io::print_decimal(1, count(met, CROWDED));
+    io::write_all(
+        1,
+        b"\nimages by recovery's answer, those of cuts and damaged ones:\n",
+    );
+    print_recovered(met);
+}
