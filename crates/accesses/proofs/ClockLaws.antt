@@ -9,6 +9,7 @@ use lib.Dec.{eqb}
 use lib.ListN.{getD}
 use borrow.Author.Tests.{lt-ltb, ne-eqb}
 use Rattle.sizes.specs.Sizes.{threadCount}
+use Rattle.answer.proofs.ListLaws.{cond-same}
 use Rattle.accesses.specs.Clocks.{noClock, startClocks, clockAt, joinOf, raisedOf, largest, oneMore, raiseOf}
 use Rattle.accesses.specs.declared.Clock.{Clock}
 
@@ -90,14 +91,9 @@ raise-grows clock thread canGrow =
 -- all numbers of the empty clock are 0
 pub clockAt-none : (thread : ℕ) → clockAt noClock thread ≡ 0
 unfolding clockAt
-clockAt-none thread = by-flags (eqb thread 0) (eqb thread 1) (eqb thread 2) (eqb thread 3)
-  where
-    by-flags : (is0 is1 is2 is3 : Bool) → _≡_ {A = ℕ} (cond is0 0 (cond is1 0 (cond is2 0 (cond is3 0 0)))) 0
-    by-flags true is1 is2 is3 = refl
-    by-flags false true is2 is3 = refl
-    by-flags false false true is3 = refl
-    by-flags false false false true = refl
-    by-flags false false false false = refl
+clockAt-none thread =
+    let nought : ℕ = 0 in
+    rw (cond-same (eqb thread 3) nought, cond-same (eqb thread 2) nought, cond-same (eqb thread 1) nought) (cond-same (eqb thread 0) nought)
 
 -- a thread starts with its own number raised once
 pub start-raised : (thread : ℕ) → thread < threadCount → getD startClocks thread noClock ≡ raisedOf noClock thread

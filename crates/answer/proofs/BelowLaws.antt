@@ -18,7 +18,8 @@ unfolding someBelow
 someBelow-found zero test some = absurd (false≢true some)
 someBelow-found (suc bound) test some = by-last (test bound) refl some (someBelow-found bound test)
   where
-    by-last : (last : Bool) → test bound ≡ last → (last || someBelow bound test) ≡ true → (someBelow bound test ≡ true → SomeBelow bound test) → SomeBelow (suc bound) test
+    by-last : (last : Bool) → test bound ≡ last → (last || someBelow bound test) ≡ true →
+        (someBelow bound test ≡ true → SomeBelow bound test) → SomeBelow (suc bound) test
     by-last true holds some earlier = record { number = bound; below = omega arith; holds = holds }
     by-last false fails some earlier =
         let found = earlier some in
@@ -29,7 +30,8 @@ unfolding someBelow
 someBelow-none zero test none number below = absurd (omega arith)
 someBelow-none (suc bound) test none number below = by-last (test bound) refl none (λ rest. someBelow-none bound test rest number)
   where
-    by-last : (last : Bool) → test bound ≡ last → (last || someBelow bound test) ≡ false → (someBelow bound test ≡ false → number < bound → test number ≡ false) → test number ≡ false
+    by-last : (last : Bool) → test bound ≡ last → (last || someBelow bound test) ≡ false →
+        (someBelow bound test ≡ false → number < bound → test number ≡ false) → test number ≡ false
     by-last true holds none earlier = absurd (true≢false none)
     by-last false fails none earlier =
         by-cases (ℕ-discrete number bound) (λ same. rw same fails) (λ other. earlier none (omega arith))

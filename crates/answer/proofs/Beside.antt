@@ -5,7 +5,10 @@ use mathlib.Core.Bool.{false, true≢false}
 use mathlib.Core.Logic.{_⊎_, inl, inr, ⊎-elim}
 use Rattle.answer.specs.Answer.{valueOf, isAccepted}
 use Rattle.answer.specs.declared.Answer.{Answer}
-use Rattle.answer.specs.declared.Answer.the-variants.{Accepted, NoSuchKind, NoSuchThread, NoSuchPlace, UnusedField, LogFull, LsnsUsedUp, Releasing, Race, AlreadyLogged, NotLogged, EntryNotDurable, LockHeld, LockNotHeld, NotReleasing, NothingToPrune, EarlierReleaseNotPruned, CellNotDurable, NoLiveEntry, Unreadable, WrongLength, BadHead, BadEntry, Cyclic}
+use Rattle.answer.specs.declared.Answer.the-variants.{Accepted, NoSuchKind, NoSuchThread, NoSuchPlace, UnusedField, LogFull}
+use Rattle.answer.specs.declared.Answer.the-variants.{LsnsUsedUp, Releasing, Race, AlreadyLogged, NotLogged, EntryNotDurable}
+use Rattle.answer.specs.declared.Answer.the-variants.{LockHeld, LockNotHeld, NotReleasing, NothingToPrune, EarlierReleaseNotPruned}
+use Rattle.answer.specs.declared.Answer.the-variants.{CellNotDurable, NoLiveEntry, Unreadable, WrongLength, BadHead, BadEntry, Cyclic}
 
 -- the answer is an acceptance
 pub record IsAccepted (answer : Answer) : Type 0 where

@@ -47,21 +47,12 @@ module _ {A : Type 0} where
 
   -- ---- what a list has after a store, at any place within it
 
-  pub getD-set : (list : List A) (i : ℕ) (a : A) (j : ℕ) (d : A) → j < length list → getD (set list i a) j d ≡ cond (eqb j i) a (getD list j d)
+  pub getD-set : (list : List A) (i : ℕ) (a : A) (j : ℕ) (d : A) → j < length list →
+      getD (set list i a) j d ≡ cond (eqb j i) a (getD list j d)
   getD-set list i a j d below =
       by-cases (ℕ-discrete j i)
       (λ e. rw (eq-eqb j i e) (ap (λ (k : ℕ). getD (set list i a) k d) e ∙ getD-set-same list i a d (omega (arith, e))))
       (λ ne. rw (ne-eqb j i ne) (getD-set-other list i j a d ne))
-
-  -- a store in a table
-  pub set-tab : (n : ℕ) (f : ℕ → A) (i : ℕ) (a : A) → set (tab n f) i a ≡ tab n (λ k. cond (eqb k i) a (f k))
-  set-tab n f i a =
-      ext-getD a (set (tab n f) i a) (tab n (λ k. cond (eqb k i) a (f k))) (length-set (tab n f) i a ∙ length-tab n f ∙ sym (length-tab n (λ k. cond (eqb k i) a (f k))))
-      (λ j below.
-      let within : j < n = omega (arith, length-set (tab n f) i a, length-tab n f) in
-      getD-set (tab n f) i a j a (omega (arith, length-tab n f)) ∙
-      ap (cond (eqb j i) a) (getD-tab n f j a within) ∙
-      sym (getD-tab n (λ k. cond (eqb k i) a (f k)) j a within))
 
   -- where what is stored is what stands past the end, the same holds of every place
   pub getD-unset : (list : List A) (i j : ℕ) (d : A) → getD (set list i d) j d ≡ cond (eqb j i) d (getD list j d)
@@ -84,42 +75,53 @@ module _ {A : Type 0} where
   length-setFrom test value place [] = refl
   length-setFrom test value place (old ∷ list) = ap suc (length-setFrom test value (suc place) list)
 
-  getD-setFrom-at : (test : ℕ → Bool) (value : A) (place : ℕ) (list : List A) (i : ℕ) (d : A) → i < length list → getD (setFrom test value place list) i d ≡ cond (test (place + i)) value (getD list i d)
+  getD-setFrom-at : (test : ℕ → Bool) (value : A) (place : ℕ) (list : List A) (i : ℕ) (d : A) → i < length list →
+      getD (setFrom test value place list) i d ≡ cond (test (place + i)) value (getD list i d)
   unfolding setFrom
   getD-setFrom-at test value place [] i d below = absurd (not-suc-le-zero below)
   getD-setFrom-at test value place (old ∷ list) zero d below = ap (λ (k : ℕ). cond (test k) value old) (omega arith)
   getD-setFrom-at test value place (old ∷ list) (suc i) d below =
-      getD-setFrom-at test value (suc place) list i d (le-of-suc-le-suc below) ∙ ap (λ (k : ℕ). cond (test k) value (getD list i d)) (omega arith)
+      getD-setFrom-at test value (suc place) list i d (le-of-suc-le-suc below) ∙
+      ap (λ (k : ℕ). cond (test k) value (getD list i d)) (omega arith)
 
   -- the value where the test holds, within the list
-  pub getD-setFrom : (test : ℕ → Bool) (value : A) (list : List A) (i : ℕ) (d : A) → i < length list → getD (setFrom test value 0 list) i d ≡ cond (test i) value (getD list i d)
-  getD-setFrom test value list i d below = getD-setFrom-at test value 0 list i d below ∙ ap (λ (k : ℕ). cond (test k) value (getD list i d)) (zero-add i)
+  pub getD-setFrom : (test : ℕ → Bool) (value : A) (list : List A) (i : ℕ) (d : A) → i < length list →
+      getD (setFrom test value 0 list) i d ≡ cond (test i) value (getD list i d)
+  getD-setFrom test value list i d below =
+      getD-setFrom-at test value 0 list i d below ∙ ap (λ (k : ℕ). cond (test k) value (getD list i d)) (zero-add i)
 
   -- what was there where the test fails, at every place
-  pub getD-setFrom-kept : (test : ℕ → Bool) (value : A) (list : List A) (i : ℕ) (d : A) → test i ≡ false → getD (setFrom test value 0 list) i d ≡ getD list i d
+  pub getD-setFrom-kept : (test : ℕ → Bool) (value : A) (list : List A) (i : ℕ) (d : A) → test i ≡ false →
+      getD (setFrom test value 0 list) i d ≡ getD list i d
   getD-setFrom-kept test value list i d fails =
       by-cases (decLt i (length list))
       (λ below. getD-setFrom test value list i d below ∙ rw fails)
       (λ past.
-      List·getD-eq-default (setFrom test value 0 list) d (omega (arith, length-setFrom test value 0 list)) ∙ sym (List·getD-eq-default list d (omega arith)))
+      List·getD-eq-default (setFrom test value 0 list) d (omega (arith, length-setFrom test value 0 list)) ∙
+      sym (List·getD-eq-default list d (omega arith)))
 
   -- where the value is what stands past the end, the same holds of every place
-  pub getD-clearFrom : (test : ℕ → Bool) (list : List A) (i : ℕ) (d : A) → getD (setFrom test d 0 list) i d ≡ cond (test i) d (getD list i d)
+  pub getD-clearFrom : (test : ℕ → Bool) (list : List A) (i : ℕ) (d : A) →
+      getD (setFrom test d 0 list) i d ≡ cond (test i) d (getD list i d)
   getD-clearFrom test list i d =
       by-cases (decLt i (length list)) (getD-setFrom test d list i d)
       (λ past.
       let out : length list ≤ i = omega arith in
-      List·getD-eq-default (setFrom test d 0 list) d (omega (arith, length-setFrom test d 0 list)) ∙ sym (ap (cond (test i) d) (List·getD-eq-default list d out) ∙ cond-same (test i) d))
+      List·getD-eq-default (setFrom test d 0 list) d (omega (arith, length-setFrom test d 0 list)) ∙
+      sym (ap (cond (test i) d) (List·getD-eq-default list d out) ∙ cond-same (test i) d))
 
-  setFrom-none-at : (test : ℕ → Bool) (value : A) (place : ℕ) (list : List A) → ((i : ℕ) → place ≤ i → i < place + length list → test i ≡ false) → setFrom test value place list ≡ list
+  setFrom-none-at : (test : ℕ → Bool) (value : A) (place : ℕ) (list : List A) →
+      ((i : ℕ) → place ≤ i → i < place + length list → test i ≡ false) → setFrom test value place list ≡ list
   unfolding setFrom
   setFrom-none-at test value place [] none = refl
   setFrom-none-at test value place (old ∷ list) none =
       rw (none place (omega arith) (omega arith))
-      (ap (λ (rest : List A). old ∷ rest) (setFrom-none-at test value (suc place) list (λ i past below. none i (omega arith) (omega arith))))
+      (ap (λ (rest : List A). old ∷ rest)
+      (setFrom-none-at test value (suc place) list (λ i past below. none i (omega arith) (omega arith))))
 
   -- where the test holds of no place, the list is as it was
-  pub setFrom-none : (test : ℕ → Bool) (value : A) (list : List A) → ((i : ℕ) → i < length list → test i ≡ false) → setFrom test value 0 list ≡ list
+  pub setFrom-none : (test : ℕ → Bool) (value : A) (list : List A) → ((i : ℕ) → i < length list → test i ≡ false) →
+      setFrom test value 0 list ≡ list
   setFrom-none test value list none = setFrom-none-at test value 0 list (λ i past below. none i (omega arith))
 
   -- ---- mixFrom
@@ -130,20 +132,25 @@ module _ {A : Type 0} where
   length-mixFrom test place [] (old ∷ list) = refl
   length-mixFrom test place (new ∷ news) (old ∷ list) = ap suc (length-mixFrom test (suc place) news list)
 
-  getD-mixFrom-at : (test : ℕ → Bool) (place : ℕ) (news list : List A) (i : ℕ) (d : A) → length news ≡ length list → getD (mixFrom test place news list) i d ≡ cond (test (place + i)) (getD news i d) (getD list i d)
+  getD-mixFrom-at : (test : ℕ → Bool) (place : ℕ) (news list : List A) (i : ℕ) (d : A) → length news ≡ length list →
+      getD (mixFrom test place news list) i d ≡ cond (test (place + i)) (getD news i d) (getD list i d)
   unfolding mixFrom
   getD-mixFrom-at test place [] [] i d long = sym (cond-same (test (place + i)) d)
   getD-mixFrom-at test place (new ∷ news) [] i d long = absurd (suc-ne-zero (length news) long)
   getD-mixFrom-at test place [] (old ∷ list) i d long = absurd (suc-ne-zero (length list) (sym long))
   getD-mixFrom-at test place (new ∷ news) (old ∷ list) zero d long = ap (λ (k : ℕ). cond (test k) new old) (omega arith)
   getD-mixFrom-at test place (new ∷ news) (old ∷ list) (suc i) d long =
-      getD-mixFrom-at test (suc place) news list i d (suc-inj long) ∙ ap (λ (k : ℕ). cond (test k) (getD news i d) (getD list i d)) (omega arith)
+      getD-mixFrom-at test (suc place) news list i d (suc-inj long) ∙
+      ap (λ (k : ℕ). cond (test k) (getD news i d) (getD list i d)) (omega arith)
 
   -- the first list's where the test holds, at every place
-  pub getD-mixFrom : (test : ℕ → Bool) (news list : List A) (i : ℕ) (d : A) → length news ≡ length list → getD (mixFrom test 0 news list) i d ≡ cond (test i) (getD news i d) (getD list i d)
-  getD-mixFrom test news list i d long = getD-mixFrom-at test 0 news list i d long ∙ ap (λ (k : ℕ). cond (test k) (getD news i d) (getD list i d)) (zero-add i)
+  pub getD-mixFrom : (test : ℕ → Bool) (news list : List A) (i : ℕ) (d : A) → length news ≡ length list →
+      getD (mixFrom test 0 news list) i d ≡ cond (test i) (getD news i d) (getD list i d)
+  getD-mixFrom test news list i d long =
+      getD-mixFrom-at test 0 news list i d long ∙ ap (λ (k : ℕ). cond (test k) (getD news i d) (getD list i d)) (zero-add i)
 
-  mixFrom-none-at : (test : ℕ → Bool) (place : ℕ) (news list : List A) → ((i : ℕ) → place ≤ i → i < place + length list → test i ≡ false) → mixFrom test place news list ≡ list
+  mixFrom-none-at : (test : ℕ → Bool) (place : ℕ) (news list : List A) →
+      ((i : ℕ) → place ≤ i → i < place + length list → test i ≡ false) → mixFrom test place news list ≡ list
   unfolding mixFrom
   mixFrom-none-at test place news [] none = refl
   mixFrom-none-at test place [] (old ∷ list) none = refl
@@ -160,13 +167,15 @@ module _ {A : Type 0} where
   abbrev pub partly : ℕ → List A → List A → List A
   partly place new old = take place new ++ drop place old
 
-  getD-partly-at : (place : ℕ) (new old : List A) (i : ℕ) (d : A) → length new ≡ length old → getD (partly place new old) i d ≡ cond (ltb i place) (getD new i d) (getD old i d)
+  getD-partly-at : (place : ℕ) (new old : List A) (i : ℕ) (d : A) → length new ≡ length old →
+      getD (partly place new old) i d ≡ cond (ltb i place) (getD new i d) (getD old i d)
   getD-partly-at zero new old i d long = rw (le-ltb i 0 (omega arith))
   getD-partly-at (suc place) [] [] i d long = sym (cond-same (ltb i (suc place)) d)
   getD-partly-at (suc place) (x ∷ new) [] i d long = absurd (suc-ne-zero (length new) long)
   getD-partly-at (suc place) [] (y ∷ old) i d long = absurd (suc-ne-zero (length old) (sym long))
   getD-partly-at (suc place) (x ∷ new) (y ∷ old) zero d long = rw (lt-ltb 0 (suc place) (omega arith))
-  getD-partly-at (suc place) (x ∷ new) (y ∷ old) (suc i) d long = rw (leb·suc-suc (suc i) place) (getD-partly-at place new old i d (suc-inj long))
+  getD-partly-at (suc place) (x ∷ new) (y ∷ old) (suc i) d long =
+      rw (leb·suc-suc (suc i) place) (getD-partly-at place new old i d (suc-inj long))
 
   module _ (new old : List A) (d : A) (long : length new ≡ length old) where
     pub length-partly : (place : ℕ) → length (partly place new old) ≡ length old
@@ -176,7 +185,9 @@ module _ {A : Type 0} where
     getD-partly place i = getD-partly-at place new old i d long
 
     -- a list is the new one below a place, and the old one from there on, where it has what they have
-    pub is-partly : (place : ℕ) (list : List A) → length list ≡ length old → ((i : ℕ) → i < place → getD list i d ≡ getD new i d) → ((i : ℕ) → place ≤ i → getD list i d ≡ getD old i d) → list ≡ partly place new old
+    pub is-partly : (place : ℕ) (list : List A) → length list ≡ length old →
+        ((i : ℕ) → i < place → getD list i d ≡ getD new i d) → ((i : ℕ) → place ≤ i → getD list i d ≡ getD old i d) →
+        list ≡ partly place new old
     is-partly place list as-long front back =
         ext-getD d list (partly place new old) (as-long ∙ sym (length-partly place))
         (λ i below.
@@ -185,7 +196,10 @@ module _ {A : Type 0} where
         (λ past. rw (getD-partly place i, le-ltb i place (omega arith)) (back i (omega arith))))
 
     -- some stores that take the list from one place to another: what they write is what the new list has
-    pub partly-to : (place end : ℕ) (list : List A) → length list ≡ length old → place ≤ end → ((i : ℕ) → place ≤ i → i < end → getD list i d ≡ getD new i d) → ((i : ℕ) → i < place → getD list i d ≡ getD (partly place new old) i d) → ((i : ℕ) → end ≤ i → getD list i d ≡ getD (partly place new old) i d) → list ≡ partly end new old
+    pub partly-to : (place end : ℕ) (list : List A) → length list ≡ length old → place ≤ end →
+        ((i : ℕ) → place ≤ i → i < end → getD list i d ≡ getD new i d) →
+        ((i : ℕ) → i < place → getD list i d ≡ getD (partly place new old) i d) →
+        ((i : ℕ) → end ≤ i → getD list i d ≡ getD (partly place new old) i d) → list ≡ partly end new old
     partly-to place end list as-long le written front back =
         is-partly end list as-long
         (λ i below.
@@ -195,10 +209,12 @@ module _ {A : Type 0} where
         (λ i past. back i past ∙ getD-partly place i ∙ rw (le-ltb i place (omega arith)))
 
     -- a store of what the new list has
-    pub partly-write : (place : ℕ) (value : A) → place < length old → getD new place d ≡ value → set (partly place new old) place value ≡ partly (place + 1) new old
+    pub partly-write : (place : ℕ) (value : A) → place < length old → getD new place d ≡ value →
+        set (partly place new old) place value ≡ partly (place + 1) new old
     partly-write place value below is =
         let same = length-partly place in
-        partly-to place (place + 1) (set (partly place new old) place value) (length-set (partly place new old) place value ∙ same) (omega arith)
+        partly-to place (place + 1) (set (partly place new old) place value)
+        (length-set (partly place new old) place value ∙ same) (omega arith)
         (λ i le less.
         let here : i ≡ place = omega arith in
         rw here (getD-set-same (partly place new old) place value d (omega arith) ∙ sym is))
@@ -206,7 +222,8 @@ module _ {A : Type 0} where
         (λ i past. getD-set-other (partly place new old) place i value d (omega arith))
 
     -- where the two lists are the same from one place to another, nothing need be written
-    pub partly-keep : (place end : ℕ) → place ≤ end → ((i : ℕ) → place ≤ i → i < end → getD new i d ≡ getD old i d) → partly place new old ≡ partly end new old
+    pub partly-keep : (place end : ℕ) → place ≤ end → ((i : ℕ) → place ≤ i → i < end → getD new i d ≡ getD old i d) →
+        partly place new old ≡ partly end new old
     partly-keep place end le same =
         partly-to place end (partly place new old) (length-partly place) le
         (λ i past less. getD-partly place i ∙ rw (le-ltb i place past, same i past less))
@@ -225,6 +242,13 @@ module _ {A : Type 0} where
     pub partly-all : (place : ℕ) → length old ≤ place → partly place new old ≡ new
     partly-all place le =
         partly-done place (λ i past. List·getD-eq-default new d (omega arith) ∙ sym (List·getD-eq-default old d (omega arith)))
+
+-- what stands at a place within a mapped list, whatever stands past the ends
+pub getD-map : {A B : Type 0} (f : A → B) (list : List A) (place : ℕ) (d : A) (e : B) → place < length list
+    → getD (map f list) place e ≡ f (getD list place d)
+getD-map f [] place d e inside = absurd (omega arith)
+getD-map f (one ∷ list) zero d e inside = refl
+getD-map f (one ∷ list) (suc place) d e inside = getD-map f list place d e (omega arith)
 
 -- a function of each element of a table
 pub map-tab : {A B : Type 0} (g : A → B) (n : ℕ) (f : ℕ → A) → map g (tab n f) ≡ tab n (λ i. g (f i))

@@ -31,7 +31,10 @@ allRefuse-append [] second one other = other
 allRefuse-append ((holds ⇒ answer) ∷ first) second one other = (one .0, allRefuse-append first second (one .1) other)
 
 -- Two outcomes of the same tests go one way: what holds of both refusals, and of both effects where all tests failed, holds of both.
-pub unless-both : {A B : Type 0} (Q : A → B → Type 0) (refuse : Answer → A) (report : Answer → B) (tests : List Test) (outcome : A) (done : B) → AllRefuse tests → ((answer : Answer) → isAccepted answer ≡ false → Q (refuse answer) (report answer)) → (AllFail tests → Q outcome done) → Q (unless refuse tests outcome) (unless report tests done)
+pub unless-both : {A B : Type 0} (Q : A → B → Type 0) (refuse : Answer → A) (report : Answer → B) (tests : List Test)
+    (outcome : A) (done : B) →
+    AllRefuse tests → ((answer : Answer) → isAccepted answer ≡ false → Q (refuse answer) (report answer)) →
+    (AllFail tests → Q outcome done) → Q (unless refuse tests outcome) (unless report tests done)
 unfolding unless
 unless-both Q refuse report [] outcome done refusals onRefusal onEffect = onEffect tt
 unless-both Q refuse report ((true ⇒ answer) ∷ tests) outcome done refusals onRefusal onEffect = onRefusal answer (refusals .0)
@@ -39,7 +42,9 @@ unless-both Q refuse report ((false ⇒ answer) ∷ tests) outcome done refusals
     unless-both Q refuse report tests outcome done (refusals .1) onRefusal (λ fails. onEffect (refl, fails))
 
 -- what holds of every refusal, and of the effect where all tests failed, holds of the outcome
-pub unless-cases : {A : Type 0} (Q : A → Type 0) (refuse : Answer → A) (tests : List Test) (outcome : A) → AllRefuse tests → ((answer : Answer) → isAccepted answer ≡ false → Q (refuse answer)) → (AllFail tests → Q outcome) → Q (unless refuse tests outcome)
+pub unless-cases : {A : Type 0} (Q : A → Type 0) (refuse : Answer → A) (tests : List Test) (outcome : A) →
+    AllRefuse tests → ((answer : Answer) → isAccepted answer ≡ false → Q (refuse answer)) →
+    (AllFail tests → Q outcome) → Q (unless refuse tests outcome)
 unless-cases Q refuse tests outcome = unless-both (λ one other. Q one) refuse refuse tests outcome outcome
 
 -- an answer that is no acceptance has another number than 0
@@ -47,15 +52,19 @@ pub not-zero : (answer : Answer) → isAccepted answer ≡ false → numberOf an
 not-zero answer refuses zero = true≢false (sym (ap (λ number. eqb number 0) zero) ∙ refuses)
 
 -- tests in order, and then others
-pub unless-append : {A : Type 0} (refuse : Answer → A) (outcome : A) (tests more : List Test) → unless refuse (tests ++ more) outcome ≡ unless refuse tests (unless refuse more outcome)
+pub unless-append : {A : Type 0} (refuse : Answer → A) (outcome : A) (tests more : List Test) →
+    unless refuse (tests ++ more) outcome ≡ unless refuse tests (unless refuse more outcome)
 unfolding unless
 unless-append refuse outcome [] more = refl
 unless-append refuse outcome ((holds ⇒ answer) ∷ tests) more = ap (cond holds (refuse answer)) (unless-append refuse outcome tests more)
 
 -- Code that asks the tests by a function whose result has the answer in it: what it may say once it looks at the answer's number.
-module _ {A B : Type 0} (refuse : Answer → A) (outcome : A) (report : Answer → B) (done : B) (answerOf : B → Answer) (reports : (answer : Answer) → answerOf (report answer) ≡ answer) (accepts : numberOf (answerOf done) ≡ 0) (tests : List Test) (refusals : AllRefuse tests) where
+module _ {A B : Type 0} (refuse : Answer → A) (outcome : A) (report : Answer → B) (done : B) (answerOf : B → Answer)
+    (reports : (answer : Answer) → answerOf (report answer) ≡ answer) (accepts : numberOf (answerOf done) ≡ 0)
+    (tests : List Test) (refusals : AllRefuse tests) where
   -- one of them holds, so the outcome is the same refusal
-  pub one-stops : (numberOf (answerOf (unless report tests done)) ≡ 0 → ⊥) → unless refuse tests outcome ≡ refuse (answerOf (unless report tests done))
+  pub one-stops : (numberOf (answerOf (unless report tests done)) ≡ 0 → ⊥) →
+      unless refuse tests outcome ≡ refuse (answerOf (unless report tests done))
   one-stops =
       unless-both
       (λ one other. (numberOf (answerOf other) ≡ 0 → ⊥) → one ≡ refuse (answerOf other))
@@ -69,7 +78,8 @@ module _ {A B : Type 0} (refuse : Answer → A) (outcome : A) (report : Answer �
       (λ fails isRefused. absurd (isRefused accepts))
 
   -- none of them holds, so both effects happen
-  pub none-stops : numberOf (answerOf (unless report tests done)) ≡ 0 → (unless refuse tests outcome ≡ outcome) × (unless report tests done ≡ done) × AllFail tests
+  pub none-stops : numberOf (answerOf (unless report tests done)) ≡ 0 →
+      (unless refuse tests outcome ≡ outcome) × (unless report tests done ≡ done) × AllFail tests
   none-stops =
       unless-both
       (λ one other. numberOf (answerOf other) ≡ 0 → (one ≡ outcome) × (other ≡ done) × AllFail tests)
@@ -88,17 +98,22 @@ module _ {A : Type 0} (refuse : Answer → A) (outcome : A) (more tests : List T
   unfolding firstRefusal
   stops isRefused =
       unless-append refuse outcome tests more
-      ∙ one-stops refuse (unless refuse more outcome) (λ answer. answer) (Accepted 0) (λ answer. answer) (λ answer. refl) refl tests refusals isRefused
+      ∙ one-stops refuse (unless refuse more outcome) (λ answer. answer) (Accepted 0) (λ answer. answer)
+      (λ answer. refl) refl tests refusals isRefused
 
   pub goes-on : numberOf (firstRefusal tests) ≡ 0 → unless refuse (tests ++ more) outcome ≡ unless refuse more outcome
   unfolding firstRefusal
   goes-on isAccepted =
       unless-append refuse outcome tests more
-      ∙ none-stops refuse (unless refuse more outcome) (λ answer. answer) (Accepted 0) (λ answer. answer) (λ answer. refl) refl tests refusals isAccepted .0
+      ∙ none-stops refuse (unless refuse more outcome) (λ answer. answer) (Accepted 0) (λ answer. answer)
+      (λ answer. refl) refl tests refusals isAccepted .0
 
 -- none of the tests holds where the first refusal is none
-pub none-holds : (tests : List Test) → AllRefuse tests → numberOf (firstRefusal tests) ≡ 0 → (firstRefusal tests ≡ Accepted 0) × AllFail tests
+pub none-holds : (tests : List Test) → AllRefuse tests → numberOf (firstRefusal tests) ≡ 0 →
+    (firstRefusal tests ≡ Accepted 0) × AllFail tests
 unfolding firstRefusal
 none-holds tests refusals isAccepted =
-    let asked = none-stops (λ answer. answer) (Accepted 0) (λ answer. answer) (Accepted 0) (λ answer. answer) (λ answer. refl) refl tests refusals isAccepted in
+    let asked =
+    none-stops (λ answer. answer) (Accepted 0) (λ answer. answer) (Accepted 0) (λ answer. answer) (λ answer. refl) refl
+    tests refusals isAccepted in
     (asked .1, asked .2)

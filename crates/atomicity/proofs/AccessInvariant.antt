@@ -1,4 +1,5 @@
--- The accesses' invariant: each stamp is the epoch of a thread's last access of a cell, and of a cell's last LOG, before which all its other LOGs happen.
+-- The accesses' invariant: each stamp is the epoch of a thread's last access of a cell, and of a cell's last LOG, before which all its
+-- other LOGs happen.
 use Prim.Native.Nat.{ℕ, suc, _<_, _≤_, _*_}
 use mathlib.Core.Path.{_≡_, refl, sym, _∙_, ap}
 use mathlib.Core.Bool.{true, false, false≢true}
@@ -52,19 +53,22 @@ pub record Logged (history : List Fed) (cell stamp logger : ℕ) : Type 0 where
 
 -- what the stamps say of a history
 pub record Accessed (accesses : Accesses) (history : List Fed) : Type 0 where
-  pub stamps : (cell thread : ℕ) → cell < cellCount → thread < threadCount → Stamped history (AccessOf cell thread) (getD (accesses .stamps) (accessPlace cell thread) 0)
+  pub stamps : (cell thread : ℕ) → cell < cellCount → thread < threadCount →
+      Stamped history (AccessOf cell thread) (getD (accesses .stamps) (accessPlace cell thread) 0)
   pub logs : (cell : ℕ) → cell < cellCount → Logged history cell (getD (accesses .logged) cell 0) (getD (accesses .loggers) cell 0)
 
 nothing-took : {Sort : Fed → Type 0} {place : ℕ} → Took [] Sort place → ⊥
 nothing-took took = absurd (false≢true (took .isAccepted))
 
 -- nothing was accessed
-pub accessed-start : Accessed (record { stamps = replicate (cellCount * threadCount) 0; logged = replicate cellCount 0; loggers = replicate cellCount 0 }) []
+pub accessed-start : Accessed
+    (record { stamps = replicate (cellCount * threadCount) 0; logged = replicate cellCount 0; loggers = replicate cellCount 0 }) []
 accessed-start = record {
-  stamps = λ cell thread isCell isThread. rw (getD-replicate {A = ℕ} (cellCount * threadCount) (accessPlace cell thread) 0 0 (omega arith)) (record {
-    atMost = λ place took. absurd (nothing-took took);
-    latest = λ isSome. absurd (isSome refl);
-  });
+  stamps = λ cell thread isCell isThread.
+      rw (getD-replicate {A = ℕ} (cellCount * threadCount) (accessPlace cell thread) 0 0 (omega arith)) (record {
+        atMost = λ place took. absurd (nothing-took took);
+        latest = λ isSome. absurd (isSome refl);
+      });
   logs = λ cell isCell. rw (getD-replicate {A = ℕ} cellCount cell 0 0 isCell) (record {
     none = λ isNone place took. nothing-took took;
     last = λ isSome. absurd (isSome refl);
@@ -85,20 +89,24 @@ module _ (history : List Fed) (next : Fed) where
   took-epoch {Sort} {place} took = epoch-stays history (next ∷ []) place (accepted-inside history place (took .isAccepted))
 
   -- a step of a sort is an old one, or the next
-  took-cases : (Sort : Fed → Type 0) (P : ℕ → Type 0) → ((place : ℕ) → Took history Sort place → P place) → (next .accepted ≡ true → Sort next → P (length history)) → (place : ℕ) → Took (andThen history next) Sort place → P place
+  took-cases : (Sort : Fed → Type 0) (P : ℕ → Type 0) → ((place : ℕ) → Took history Sort place → P place) →
+      (next .accepted ≡ true → Sort next → P (length history)) → (place : ℕ) → Took (andThen history next) Sort place →
+      P place
   took-cases Sort P old new place took =
       old-or-next
       history
       next
       (λ place. Sort (stepAt (andThen history next) place) → P place)
-      (λ place inside isAccepted isSort. old place (record { isAccepted = isAccepted; isSort = rw (step-stays history (next ∷ []) place inside) at isSort }))
+      (λ place inside isAccepted isSort.
+      old place (record { isAccepted = isAccepted; isSort = rw (step-stays history (next ∷ []) place inside) at isSort }))
       (λ isAccepted isSort. new isAccepted (rw (step-next history next) at isSort))
       place
       (took .isAccepted)
       (took .isSort)
 
   -- a step that is refused or of another sort leaves the stamp what it is
-  stamped-other : (Sort : Fed → Type 0) (stamp : ℕ) → (next .accepted ≡ true → Sort next → ⊥) → Stamped history Sort stamp → Stamped (andThen history next) Sort stamp
+  stamped-other : (Sort : Fed → Type 0) (stamp : ℕ) → (next .accepted ≡ true → Sort next → ⊥) →
+      Stamped history Sort stamp → Stamped (andThen history next) Sort stamp
   stamped-other Sort stamp isOther stamped = record {
     atMost =
         took-cases
@@ -112,7 +120,9 @@ module _ (history : List Fed) (next : Fed) where
   }
 
   -- a step of the sort is the last one, and its epoch the stamp
-  stamped-next : (Sort : Fed → Type 0) → next .accepted ≡ true → Sort next → ((place : ℕ) → Took history Sort place → epochAt history place ≤ suc (releases history (next .thread))) → Stamped (andThen history next) Sort (suc (releases history (next .thread)))
+  stamped-next : (Sort : Fed → Type 0) → next .accepted ≡ true → Sort next →
+      ((place : ℕ) → Took history Sort place → epochAt history place ≤ suc (releases history (next .thread))) →
+      Stamped (andThen history next) Sort (suc (releases history (next .thread)))
   stamped-next Sort isAccepted isSort old = record {
     atMost =
         took-cases
@@ -124,7 +134,8 @@ module _ (history : List Fed) (next : Fed) where
   }
 
   -- a step that is refused or no LOG of the cell leaves the last LOG what it is
-  logged-other : (cell stamp logger : ℕ) → (next .accepted ≡ true → LogOf cell next → ⊥) → Logged history cell stamp logger → Logged (andThen history next) cell stamp logger
+  logged-other : (cell stamp logger : ℕ) → (next .accepted ≡ true → LogOf cell next → ⊥) →
+      Logged history cell stamp logger → Logged (andThen history next) cell stamp logger
   logged-other cell stamp logger isOther logged = record {
     none = λ isNone. took-cases (LogOf cell) (λ place. ⊥) (logged .none isNone) isOther;
     last = λ isSome.
@@ -132,19 +143,24 @@ module _ (history : List Fed) (next : Fed) where
         record {
           place = last .place;
           isLog = took-stays (last .isLog);
-          isLogger = rw (step-stays history (next ∷ []) (last .place) (accepted-inside history (last .place) (last .isLog .isAccepted))) (last .isLogger);
+          isLogger =
+              rw (step-stays history (next ∷ []) (last .place) (accepted-inside history (last .place) (last .isLog .isAccepted)))
+              (last .isLogger);
           isEpoch = took-epoch (last .isLog) ∙ last .isEpoch;
           othersBefore =
               took-cases
               (LogOf cell)
               (λ other. (other ≡ last .place) ⊎ HappensBefore (andThen history next) other (last .place))
-              (λ other took. ⊎-elim (λ same. inl same) (λ before. inr (before-stays history (next ∷ []) before)) (last .othersBefore other took))
+              (λ other took.
+              ⊎-elim (λ same. inl same) (λ before. inr (before-stays history (next ∷ []) before)) (last .othersBefore other took))
               (λ isAccepted isLog. absurd (isOther isAccepted isLog));
         };
   }
 
   -- a LOG of the cell is the last one, if all others happen before it
-  logged-next : (cell : ℕ) → next .accepted ≡ true → LogOf cell next → ((place : ℕ) → Took history (LogOf cell) place → HappensBefore (andThen history next) place (length history)) → Logged (andThen history next) cell (suc (releases history (next .thread))) (next .thread)
+  logged-next : (cell : ℕ) → next .accepted ≡ true → LogOf cell next →
+      ((place : ℕ) → Took history (LogOf cell) place → HappensBefore (andThen history next) place (length history)) →
+      Logged (andThen history next) cell (suc (releases history (next .thread))) (next .thread)
   logged-next cell isAccepted isLog old = record {
     none = λ isNone. absurd (omega arith);
     last = λ isSome. record {
@@ -165,19 +181,34 @@ module _ (history : List Fed) (next : Fed) where
     -- a refused step, and one that is no access, keep it
     pub accessed-refused : next .accepted ≡ false → Accessed accesses (andThen history next)
     accessed-refused isRefused = record {
-      stamps = λ cell thread isCell isThread. stamped-other (AccessOf cell thread) (getD (accesses .stamps) (accessPlace cell thread) 0) (λ isAccepted isSort. absurd (false≢true (sym isRefused ∙ isAccepted))) (accessed .stamps cell thread isCell isThread);
-      logs = λ cell isCell. logged-other cell (getD (accesses .logged) cell 0) (getD (accesses .loggers) cell 0) (λ isAccepted isSort. absurd (false≢true (sym isRefused ∙ isAccepted))) (accessed .logs cell isCell);
+      stamps = λ cell thread isCell isThread.
+          stamped-other (AccessOf cell thread) (getD (accesses .stamps) (accessPlace cell thread) 0)
+          (λ isAccepted isSort. absurd (false≢true (sym isRefused ∙ isAccepted)))
+          (accessed .stamps cell thread isCell isThread);
+      logs = λ cell isCell.
+          logged-other cell (getD (accesses .logged) cell 0) (getD (accesses .loggers) cell 0)
+          (λ isAccepted isSort. absurd (false≢true (sym isRefused ∙ isAccepted))) (accessed .logs cell isCell);
     }
 
     pub accessed-plain : (IsAccess (next .kind) → ⊥) → Accessed accesses (andThen history next)
     accessed-plain isOther = record {
-      stamps = λ cell thread isCell isThread. stamped-other (AccessOf cell thread) (getD (accesses .stamps) (accessPlace cell thread) 0) (λ isAccepted isSort. isOther (isSort .0)) (accessed .stamps cell thread isCell isThread);
-      logs = λ cell isCell. logged-other cell (getD (accesses .logged) cell 0) (getD (accesses .loggers) cell 0) (λ isAccepted isSort. isOther (inr (isSort .0))) (accessed .logs cell isCell);
+      stamps = λ cell thread isCell isThread.
+          stamped-other (AccessOf cell thread) (getD (accesses .stamps) (accessPlace cell thread) 0)
+          (λ isAccepted isSort. isOther (isSort .0)) (accessed .stamps cell thread isCell isThread);
+      logs = λ cell isCell.
+          logged-other cell (getD (accesses .logged) cell 0) (getD (accesses .loggers) cell 0)
+          (λ isAccepted isSort. isOther (inr (isSort .0))) (accessed .logs cell isCell);
     }
 
     -- an accepted access is stamped with its epoch, and a LOG is the cell's last one, if all earlier ones happen before it
-    module _ (isAccepted : next .accepted ≡ true) (isThread : next .thread < threadCount) (isCell : next .place < cellCount) (whole : length (accesses .stamps) ≡ cellCount * threadCount) (ownAtMost : (place : ℕ) → Took history (AccessOf (next .place) (next .thread)) place → epochAt history place ≤ suc (releases history (next .thread))) where
-      stamped-access : IsAccess (next .kind) → (cell thread : ℕ) → cell < cellCount → thread < threadCount → Stamped (andThen history next) (AccessOf cell thread) (getD (set (accesses .stamps) (accessPlace (next .place) (next .thread)) (suc (releases history (next .thread)))) (accessPlace cell thread) 0)
+    module _ (isAccepted : next .accepted ≡ true) (isThread : next .thread < threadCount)
+        (isCell : next .place < cellCount) (whole : length (accesses .stamps) ≡ cellCount * threadCount)
+        (ownAtMost : (place : ℕ) → Took history (AccessOf (next .place) (next .thread)) place →
+        epochAt history place ≤ suc (releases history (next .thread))) where
+      stamped-access : IsAccess (next .kind) → (cell thread : ℕ) → cell < cellCount → thread < threadCount →
+          Stamped (andThen history next) (AccessOf cell thread)
+          (getD (set (accesses .stamps) (accessPlace (next .place) (next .thread)) (suc (releases history (next .thread))))
+          (accessPlace cell thread) 0)
       stamped-access isAccess cell thread cellIn threadIn =
           set-cases
           (accesses .stamps)
@@ -191,33 +222,51 @@ module _ (history : List Fed) (next : Fed) where
           let sameThread : next .thread ≡ thread = omega arith in
           rw (← sameCell, ← sameThread) (stamped-next (AccessOf (next .place) (next .thread)) isAccepted (isAccess, refl, refl) ownAtMost))
           (λ index differs same.
-          rw same (stamped-other (AccessOf cell thread) (getD (accesses .stamps) (accessPlace cell thread) 0) (λ isAccepted isSort. isElse index differs same isSort) (accessed .stamps cell thread cellIn threadIn)))
+          rw same (stamped-other (AccessOf cell thread) (getD (accesses .stamps) (accessPlace cell thread) 0)
+          (λ isAccepted isSort. isElse index differs same isSort) (accessed .stamps cell thread cellIn threadIn)))
           (accessPlace cell thread)
           refl
         where
-          isElse : (index : ℕ) → index ≢ accessPlace (next .place) (next .thread) → index ≡ accessPlace cell thread → AccessOf cell thread next → ⊥
+          isElse : (index : ℕ) → index ≢ accessPlace (next .place) (next .thread) → index ≡ accessPlace cell thread →
+              AccessOf cell thread next → ⊥
           isElse index differs same isSort =
               let sameCell : next .place ≡ cell = isSort .1 in
               let sameThread : next .thread ≡ thread = isSort .2 in
               omega arith
 
-      pub accessed-load : next .kind ≡ 1 → Accessed (loadedOf accesses (next .thread) (next .place) (suc (releases history (next .thread)))) (andThen history next)
+      pub accessed-load : next .kind ≡ 1 →
+          Accessed (loadedOf accesses (next .thread) (next .place) (suc (releases history (next .thread)))) (andThen history next)
       unfolding loadedOf
       accessed-load isLoad = record {
         stamps = stamped-access (inl isLoad);
-        logs = λ cell cellIn. logged-other cell (getD (accesses .logged) cell 0) (getD (accesses .loggers) cell 0) (λ isAccepted isSort. notLog (isSort .0)) (accessed .logs cell cellIn);
+        logs = λ cell cellIn.
+            logged-other cell (getD (accesses .logged) cell 0) (getD (accesses .loggers) cell 0)
+            (λ isAccepted isSort. notLog (isSort .0)) (accessed .logs cell cellIn);
       }
         where
           notLog : next .kind ≡ 2 → ⊥
           notLog isLog = omega arith
 
-      pub accessed-log : next .kind ≡ 2 → length (accesses .logged) ≡ cellCount → length (accesses .loggers) ≡ cellCount → ((place : ℕ) → Took history (LogOf (next .place)) place → HappensBefore (andThen history next) place (length history)) → Accessed (loggedCellOf accesses (next .thread) (next .place) (suc (releases history (next .thread)))) (andThen history next)
+      pub accessed-log : next .kind ≡ 2 → length (accesses .logged) ≡ cellCount →
+          length (accesses .loggers) ≡ cellCount →
+          ((place : ℕ) → Took history (LogOf (next .place)) place → HappensBefore (andThen history next) place (length history)) →
+          Accessed (loggedCellOf accesses (next .thread) (next .place) (suc (releases history (next .thread)))) (andThen history next)
       unfolding loggedCellOf
       accessed-log isLog wholeLogged wholeLoggers old = record {
         stamps = stamped-access (inr isLog);
         logs = λ cell cellIn.
             by-cases
             (ℕ-discrete cell (next .place))
-            (λ same. rw (same, getD-set-same (accesses .logged) (next .place) (suc (releases history (next .thread))) 0 (omega arith), getD-set-same (accesses .loggers) (next .place) (next .thread) 0 (omega arith)) (logged-next (next .place) isAccepted (isLog, refl) old))
-            (λ differs. rw (getD-set-other (accesses .logged) (next .place) cell (suc (releases history (next .thread))) 0 differs, getD-set-other (accesses .loggers) (next .place) cell (next .thread) 0 differs) (logged-other cell (getD (accesses .logged) cell 0) (getD (accesses .loggers) cell 0) (λ isAccepted isSort. differs (sym (isSort .1))) (accessed .logs cell cellIn)));
+            (λ same. rw (
+              same,
+              getD-set-same (accesses .logged) (next .place) (suc (releases history (next .thread))) 0 (omega arith),
+              getD-set-same (accesses .loggers) (next .place) (next .thread) 0 (omega arith),
+            )
+            (logged-next (next .place) isAccepted (isLog, refl) old))
+            (λ differs. rw (
+              getD-set-other (accesses .logged) (next .place) cell (suc (releases history (next .thread))) 0 differs,
+              getD-set-other (accesses .loggers) (next .place) cell (next .thread) 0 differs,
+            )
+            (logged-other cell (getD (accesses .logged) cell 0) (getD (accesses .loggers) cell 0)
+            (λ isAccepted isSort. differs (sym (isSort .1))) (accessed .logs cell cellIn)));
       }

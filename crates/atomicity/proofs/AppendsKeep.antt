@@ -10,6 +10,7 @@ use lib.ListN.{length, getD, set}
 use lib.Seq.{getD-set-same, getD-set-other}
 use lib.Dec.{eqb}
 use borrow.Author.Tests.{eq-eqb, ne-eqb}
+use Rattle.sizes.specs.Sizes.{threadCount}
 use Rattle.answer.proofs.RefusalLaws.{AllFail}
 use Rattle.cache.specs.Cache.{cachedAt}
 use Rattle.undo.specs.Events.{syncCount, kindOf, placeOf, enterOf, closesOf}
@@ -43,23 +44,32 @@ use Rattle.atomicity.proofs.Logged.{Entries, Made, Is, Appends, is-case
 use Rattle.atomicity.proofs.Locks.{AppendLocks, locks-append, prunes-append}
 use Rattle.atomicity.proofs.Leads as Order
 use Rattle.atomicity.proofs.Leads.{Leads}
-use Rattle.atomicity.proofs.Cells.{Version, Chain, linked, unlogged, NewestLeads, none-older, leads-to, NoBoundaryAfter, CellsHold, LogsCell, cells-log, cells-boundary}
+use Rattle.atomicity.proofs.Cells.{Version, Chain, linked, unlogged, NewestLeads, none-older, leads-to, NoBoundaryAfter, CellsHold}
+use Rattle.atomicity.proofs.Cells.{LogsCell, cells-log, cells-boundary}
 use Rattle.atomicity.proofs.Follows.{Follows}
 use Rattle.atomicity.proofs.HistoryRuns.{tookStep}
-use Rattle.atomicity.proofs.Places.{PlacesHold, madeBy, lastOf, makes, made-new, step-before, step-new, last-before, places-step, before-leads}
+use Rattle.atomicity.proofs.Places.{PlacesHold, madeBy, lastOf, makes, made-new, step-before, step-new, last-before, places-step}
+use Rattle.atomicity.proofs.Places.{before-leads}
 use Rattle.atomicity.proofs.RaceLaw.{log-decides}
 use Rattle.atomicity.proofs.Times.{Formed, aStore, anAcquire, aRelease, stepKindOf, times-append}
-use Rattle.atomicity.proofs.LogViews.{setAt, setAt-here, setAt-other, logAt, viewOf, by-log, log-same, log-other, eventsThen, timesThen, append-view}
-use Rattle.atomicity.proofs.MachineInvariant.{Beginning, Ghost, World, HeadAt, at-start, after-release, at-acquire, entriesOf, locksOf, contentsOf}
+use Rattle.atomicity.proofs.LogViews.{setAt, setAt-here, setAt-other, logAt, viewOf, by-log, log-same, log-other, eventsThen}
+use Rattle.atomicity.proofs.LogViews.{timesThen, append-view}
+use Rattle.atomicity.proofs.MachineInvariant.{Beginning, Ghost, MachineInvariant, HeadAt, at-start, after-release, at-acquire}
+use Rattle.atomicity.proofs.MachineInvariant.{entriesOf, locksOf, contentsOf}
 use Rattle.atomicity.proofs.Ordered.{andThen}
 
 -- an append leaves the head where a region begins
-head-append : {old new : Entries} {now thread : ℕ} {event : Event} → Appends old new now thread event → (other : ℕ) → old .before other < old .head other → old .head other ≤ old .next other → HeadAt old other → HeadAt new other
-head-append appends other since within (at-start isFirst) = at-start (appends .headSame other ∙ (isFirst ∙ ap (λ (given : ℕ → ℕ). suc (given other)) (sym (appends .grows .beforeSame))))
+head-append : {old new : Entries} {now thread : ℕ} {event : Event} → Appends old new now thread event → (other : ℕ) →
+    old .before other < old .head other → old .head other ≤ old .next other → HeadAt old other → HeadAt new other
+head-append appends other since within (at-start isFirst) =
+    at-start (appends .headSame other ∙ (isFirst ∙ ap (λ (given : ℕ → ℕ). suc (given other)) (sym (appends .grows .beforeSame))))
 head-append {old} {new} appends other since within (after-release more ends) =
     after-release
     (rw (appends .headSame other, appends .grows .beforeSame) more)
-    (rw (appends .headSame other, appends .grows .saysSame other (old .head other - 1) (record { since = omega arith; below = omega arith })) ends)
+    (rw (
+      appends .headSame other,
+      appends .grows .saysSame other (old .head other - 1) (record { since = omega arith; below = omega arith }),
+    ) ends)
 head-append {old} {new} appends other since within (at-acquire less begins) =
     let made : Made old other (old .head other) = record { since = since; below = less } in
     let still = appends .grows .still other (old .head other) made in
@@ -72,7 +82,8 @@ record LockKept (thread : ℕ) (event : Event) (lock : ℕ) (was now : LockState
   holderKept : {other : ℕ} → was .holder ≡ Thread other → now .holder ≡ Thread other
   countSame : now .count .0 ≡ was .count .0
   prunedSame : now .pruned .0 ≡ was .pruned .0
-  holderCases : {other : ℕ} → now .holder ≡ Thread other → (was .holder ≡ Thread other) ⊎ ((other ≡ thread) × (event ≡ Acquire lock (syncCount (was .count .0))))
+  holderCases : {other : ℕ} → now .holder ≡ Thread other →
+      (was .holder ≡ Thread other) ⊎ ((other ≡ thread) × (event ≡ Acquire lock (syncCount (was .count .0))))
 
 -- a lock that is as it was
 same-lock : {thread : ℕ} {event : Event} {lock : ℕ} {state : LockState} → LockKept thread event lock state state
@@ -93,20 +104,23 @@ record AppendStep (machine : Machine) (thread kind place : ℕ) (event : Event) 
   isPlace : place ≡ placeOf event
   isAcquire : kind ≡ 4 → event ≡ Acquire place (lockOf machine place .count)
   acquireHas : {lock : ℕ} {count : SyncCount} → event ≡ Acquire lock count → count ≡ lockOf machine lock .count
-  releaseHas : {lock : ℕ} {count : SyncCount} → event ≡ Release lock count → (count ≡ lockOf machine lock .count) × (lockOf machine lock .holder ≡ Thread thread)
+  releaseHas : {lock : ℕ} {count : SyncCount} → event ≡ Release lock count →
+      (count ≡ lockOf machine lock .count) × (lockOf machine lock .holder ≡ Thread thread)
   -- the thread then releases a lock only by this RELEASE
   closes : {lock : ℕ} → closedBy Nothing (closesOf event) ≡ Lock lock → event ≡ Release lock (lockOf machine lock .count)
   lockKept : (lock : ℕ) → LockKept thread event lock (lockOf machine lock) (getD locks lock noLock)
 
-module _ {start : Beginning} {machine : Machine} {history : List Fed} {ghost : Ghost} (world : World start machine history ghost) (thread : ℕ) (inRange : thread < 4) (event : Event) (room : AllFail (appendTests (logAt (machine .logs) thread))) where
+module _ {start : Beginning} {machine : Machine} {history : List Fed} {ghost : Ghost}
+    (machineHolds : MachineInvariant start machine history ghost) (thread : ℕ) (inRange : thread < threadCount)
+    (event : Event) (room : AllFail (appendTests (logAt (machine .logs) thread))) where
   abbrev log : Log
   log = logAt (machine .logs) thread
 
   holds : UndoHolds log (ghost .event thread)
-  holds = world .logs thread inRange
+  holds = machineHolds .logs thread inRange
 
   inLogs : thread < length (machine .logs)
-  inLogs = rw (world .sized .logs) inRange
+  inLogs = rw (machineHolds .sized .logs) inRange
 
   -- the logs, and what entries said and when, after the append
   abbrev pub logsThen : List Log
@@ -122,36 +136,47 @@ module _ {start : Beginning} {machine : Machine} {history : List Fed} {ghost : G
   entriesThen = viewOf (start .before) logsThen eventThen timeThen
 
   pub appends : Appends (entriesOf start machine ghost) entriesThen (length history) thread event
-  appends = let since = world .begins thread inRange in let within = holds .headNext in append-view (start .before) (machine .logs) (ghost .event) (ghost .time) (length history) thread event inLogs (omega arith)
+  appends =
+      let since =
+      machineHolds .begins thread inRange in
+      let within = holds .headNext in
+      append-view (start .before) (machine .logs) (ghost .event) (ghost .time) (length history) thread event inLogs (omega arith)
 
-  pub logs-append : (other : ℕ) → other < 4 → UndoHolds (logAt logsThen other) (eventThen other)
+  pub logs-append : (other : ℕ) → other < threadCount → UndoHolds (logAt logsThen other) (eventThen other)
   logs-append =
       by-log
-      (λ other log. other < 4 → UndoHolds log (eventThen other))
+      (λ other log. other < threadCount → UndoHolds log (eventThen other))
       (machine .logs)
       thread
       (enterOf log event)
       inLogs
-      (λ _. subst (λ (said : ℕ → Event). UndoHolds (enterOf log event) said) (sym (setAt-here (ghost .event) thread (withEvent (ghost .event thread) (log .tail .next .0) event))) (enter-holds log (ghost .event thread) holds event room))
-      (λ other differs within. subst (λ (said : ℕ → Event). UndoHolds (logAt (machine .logs) other) said) (sym (setAt-other (ghost .event) thread (withEvent (ghost .event thread) (log .tail .next .0) event) other differs)) (world .logs other within))
+      (λ _. subst (λ (said : ℕ → Event). UndoHolds (enterOf log event) said)
+      (sym (setAt-here (ghost .event) thread (withEvent (ghost .event thread) (log .tail .next .0) event)))
+      (enter-holds log (ghost .event thread) holds event room))
+      (λ other differs within.
+      subst (λ (said : ℕ → Event). UndoHolds (logAt (machine .logs) other) said)
+      (sym (setAt-other (ghost .event) thread (withEvent (ghost .event thread) (log .tail .next .0) event) other differs))
+      (machineHolds .logs other within))
 
-  pub heads-append : (other : ℕ) → other < 4 → HeadAt entriesThen other
+  pub heads-append : (other : ℕ) → other < threadCount → HeadAt entriesThen other
   heads-append other within =
-      let bounds = world .logs other within in
-      head-append appends other (world .begins other within) (bounds .headNext) (world .heads other within)
+      let bounds = machineHolds .logs other within in
+      head-append appends other (machineHolds .begins other within) (bounds .headNext) (machineHolds .heads other within)
 
   -- the new step stands at the new entry
-  pub last-new : (fed : Fed) → makes fed thread ≡ true → madeBy (start .before) (andThen history fed) thread (suc (length history)) ≡ log .tail .next .0
+  pub last-new : (fed : Fed) → makes fed thread ≡ true →
+      madeBy (start .before) (andThen history fed) thread (suc (length history)) ≡ log .tail .next .0
   last-new fed isMade =
       made-new history fed (start .before) thread ∙
-      (let counted = world .places .nextIs thread inRange in
+      (let counted = machineHolds .places .nextIs thread inRange in
       rw isMade (omega arith))
 
   pub releasing-append : logAt logsThen thread .tail .releasing ≡ closedBy (log .tail .releasing) (closesOf event)
   unfolding appendOf grownTail
   releasing-append = ap (λ (l : Log). l .tail .releasing) (log-same (machine .logs) thread (enterOf log event) inLogs)
 
-  pub releasing-other : (other : ℕ) → (other ≡ thread → ⊥) → logAt logsThen other .tail .releasing ≡ logAt (machine .logs) other .tail .releasing
+  pub releasing-other : (other : ℕ) → (other ≡ thread → ⊥) →
+      logAt logsThen other .tail .releasing ≡ logAt (machine .logs) other .tail .releasing
   releasing-other other differs = ap (λ (l : Log). l .tail .releasing) (log-other (machine .logs) thread other (enterOf log event) differs)
 
   module _ {kind place : ℕ} (value : ℕ) {locks : List LockState} (step : AppendStep machine thread kind place event locks) where
@@ -168,7 +193,8 @@ module _ {start : Beginning} {machine : Machine} {history : List Fed} {ghost : G
     last-append = rw (step-new history fed) (last-new fed is-made)
 
     -- the next LSN of each thread counts the entry that the step makes of it
-    next-append : (other : ℕ) → other < 4 → entriesThen .next other ≡ cond (makes fed other) 1 0 + logAt (machine .logs) other .tail .next .0
+    next-append : (other : ℕ) → other < threadCount →
+        entriesThen .next other ≡ cond (makes fed other) 1 0 + logAt (machine .logs) other .tail .next .0
     next-append other within =
         by-cases
         (ℕ-discrete other thread)
@@ -194,7 +220,7 @@ module _ {start : Beginning} {machine : Machine} {history : List Fed} {ghost : G
               (λ at. let equal = ap (λ (c : SyncCount). c .0) (step .releaseHas (sym (at .2)) .0) in absurd (omega arith))
               (is-cases appends release);
         })
-        (world .places)
+        (machineHolds .places)
 
     -- the machine after the step, with these clocks and accesses
     abbrev machineThen : List Clock → List Clock → Accesses → Machine
@@ -208,11 +234,17 @@ module _ {start : Beginning} {machine : Machine} {history : List Fed} {ghost : G
     }
 
     -- a step that makes an entry keeps what holds of a machine and its history, given the sizes and the cells after it
-    world-append : {clocks lockClocks : List Clock} {accesses : Accesses} {versions : ℕ → List Version} → Sized (machineThen clocks lockClocks accesses) → CellsHold entriesThen (contentsOf start (machine .cache)) versions → World start (machineThen clocks lockClocks accesses) (andThen history fed) (record { event = eventThen; time = timeThen; versions = versions })
-    world-append {clocks} {lockClocks} {accesses} sized cells =
-        let appendLocks : AppendLocks (entriesOf start machine ghost) entriesThen (length history) thread event (locksOf machine) (locksOf (machineThen clocks lockClocks accesses)) = record {
+    machine-append : {clocks lockClocks : List Clock} {accesses : Accesses} {versions : ℕ → List Version} →
+        Sized (machineThen clocks lockClocks accesses) →
+        CellsHold entriesThen (contentsOf start (machine .cache)) versions →
+        MachineInvariant start (machineThen clocks lockClocks accesses) (andThen history fed)
+        (record { event = eventThen; time = timeThen; versions = versions })
+    machine-append {clocks} {lockClocks} {accesses} sized cells =
+        let appendLocks : AppendLocks (entriesOf start machine ghost) entriesThen (length history) thread event
+        (locksOf machine) (locksOf (machineThen clocks lockClocks accesses)) =
+        record {
           appends = appends;
-          past = world .times .past;
+          past = machineHolds .times .past;
           headNext = holds .headNext;
           notReleasing = step .notReleasing;
           releasingOther = releasing-other;
@@ -229,11 +261,11 @@ module _ {start : Beginning} {machine : Machine} {history : List Fed} {ghost : G
         record {
           sized = sized;
           logs = logs-append;
-          begins = λ other within. let same = appends .headSame other in let was = world .begins other within in omega arith;
-          cacheSized = world .cacheSized;
-          durableKept = world .durableKept;
-          locks = locks-append appendLocks (world .locks);
-          prunes = prunes-append appendLocks (world .locks) (world .prunes);
+          begins = λ other within. let same = appends .headSame other in let was = machineHolds .begins other within in omega arith;
+          cacheSized = machineHolds .cacheSized;
+          durableKept = machineHolds .durableKept;
+          locks = locks-append appendLocks (machineHolds .locks);
+          prunes = prunes-append appendLocks (machineHolds .locks) (machineHolds .prunes);
           heads = heads-append;
           cells = cells;
           places = places-append;
@@ -248,25 +280,29 @@ module _ {start : Beginning} {machine : Machine} {history : List Fed} {ghost : G
                 isThread = refl;
                 isLast = last-append;
               })
-              (world .times);
+              (machineHolds .times);
         }
 
 -- a lock that is put in place is found there, and the others are as they were
 lock-same : (locks : List LockState) (lock : ℕ) (state : LockState) → lock < length locks → getD (set locks lock state) lock noLock ≡ state
 lock-same locks lock state inRange = getD-set-same locks lock state noLock inRange
 
-lock-other : (locks : List LockState) (lock other : ℕ) (state : LockState) → (other ≡ lock → ⊥) → getD (set locks lock state) other noLock ≡ getD locks other noLock
+lock-other : (locks : List LockState) (lock other : ℕ) (state : LockState) → (other ≡ lock → ⊥) →
+    getD (set locks lock state) other noLock ≡ getD locks other noLock
 lock-other locks lock other state differs = getD-set-other locks lock other state noLock differs
 
 -- what holds of the new lock, and of every other one, holds of each
-pub by-lock : (P : ℕ → LockState → Type 0) (locks : List LockState) (lock : ℕ) (state : LockState) → lock < length locks → P lock state → ((other : ℕ) → (other ≡ lock → ⊥) → P other (getD locks other noLock)) → (other : ℕ) → P other (getD (set locks lock state) other noLock)
+pub by-lock : (P : ℕ → LockState → Type 0) (locks : List LockState) (lock : ℕ) (state : LockState) →
+    lock < length locks → P lock state → ((other : ℕ) → (other ≡ lock → ⊥) → P other (getD locks other noLock)) →
+    (other : ℕ) → P other (getD (set locks lock state) other noLock)
 by-lock P locks lock state inRange self others other =
     by-cases
     (ℕ-discrete other lock)
     (λ same. subst (λ (l : ℕ). P l (getD (set locks lock state) l noLock)) (sym same) (rw (lock-same locks lock state inRange) self))
     (λ differs. rw (lock-other locks lock other state differs) (others other differs))
 
-module _ {start : Beginning} {machine : Machine} {history : List Fed} {ghost : Ghost} (world : World start machine history ghost) (thread place value : ℕ) where
+module _ {start : Beginning} {machine : Machine} {history : List Fed} {ghost : Ghost}
+    (machineHolds : MachineInvariant start machine history ghost) (thread place value : ℕ) where
   -- what entries said and when, after the thread made one more
   abbrev pub ghostThen : Event → (ℕ → List Version) → Ghost
   ghostThen event versions = record {
@@ -279,11 +315,14 @@ module _ {start : Beginning} {machine : Machine} {history : List Fed} {ghost : G
   abbrev pub acquireEntry : Event
   acquireEntry = Acquire place (lockOf machine place .count)
 
-  pub world-acquire : AllFail (testsOf machine ACQUIRE thread place value) → World start (effect machine ACQUIRE thread place value .machine) (andThen history (tookStep ACQUIRE thread place value)) (ghostThen acquireEntry (ghost .versions))
+  pub machine-acquire : AllFail (testsOf machine ACQUIRE thread place value) →
+      MachineInvariant start (effect machine ACQUIRE thread place value .machine)
+      (andThen history (tookStep ACQUIRE thread place value)) (ghostThen acquireEntry (ghost .versions))
   unfolding effect acquireEffect
-  world-acquire fails =
+  machine-acquire fails =
       let asked = acquire-asked machine thread place value fails in
-      let held : LockState = record { holder = Thread thread; count = lockOf machine place .count; pruned = lockOf machine place .pruned } in
+      let held : LockState =
+      record { holder = Thread thread; count = lockOf machine place .count; pruned = lockOf machine place .pruned } in
       let taken : LockKept thread acquireEntry place (lockOf machine place) held = record {
         holderKept = λ wasHeld. cc;
         countSame = refl;
@@ -300,19 +339,24 @@ module _ {start : Beginning} {machine : Machine} {history : List Fed} {ghost : G
         acquireHas = λ says. cc;
         releaseHas = λ says. ((cc), (cc));
         closes = λ closes. cc;
-        lockKept = by-lock (λ lock state. LockKept thread acquireEntry lock (lockOf machine lock) state) (machine .locks) place held (rw (world .sized .locks) (asked .inLock)) taken (λ other differs. same-lock);
+        lockKept =
+            by-lock (λ lock state. LockKept thread acquireEntry lock (lockOf machine lock) state) (machine .locks) place
+            held (rw (machineHolds .sized .locks) (asked .inLock)) taken (λ other differs. same-lock);
       } in
-      world-append world thread (asked .inThread) acquireEntry (asked .room) value step
-      (effect-sized machine (world .sized) ACQUIRE thread place value fails)
-      (cells-boundary (appends world thread (asked .inThread) acquireEntry (asked .room)) (inl refl) (λ cell old says. omega (arith, ap kindOf says)) (world .cells))
+      machine-append machineHolds thread (asked .inThread) acquireEntry (asked .room) value step
+      (effect-sized machine (machineHolds .sized) ACQUIRE thread place value fails)
+      (cells-boundary (appends machineHolds thread (asked .inThread) acquireEntry (asked .room)) (inl refl)
+      (λ cell old says. omega (arith, ap kindOf says)) (machineHolds .cells))
 
   -- LOGREL's entry
   abbrev pub releaseEntry : Event
   releaseEntry = Release place (lockOf machine place .count)
 
-  pub world-log-release : AllFail (testsOf machine LOGREL thread place value) → World start (effect machine LOGREL thread place value .machine) (andThen history (tookStep LOGREL thread place value)) (ghostThen releaseEntry (ghost .versions))
+  pub machine-log-release : AllFail (testsOf machine LOGREL thread place value) →
+      MachineInvariant start (effect machine LOGREL thread place value .machine)
+      (andThen history (tookStep LOGREL thread place value)) (ghostThen releaseEntry (ghost .versions))
   unfolding effect logReleaseEffect
-  world-log-release fails =
+  machine-log-release fails =
       let asked = log-release-asked machine thread place value fails in
       let step : AppendStep machine thread 5 place releaseEntry (machine .locks) = record {
         isKind = refl;
@@ -326,9 +370,10 @@ module _ {start : Beginning} {machine : Machine} {history : List Fed} {ghost : G
         closes = λ closes. cc;
         lockKept = λ lock. same-lock;
       } in
-      world-append world thread (asked .inThread) releaseEntry (asked .room) value step
-      (effect-sized machine (world .sized) LOGREL thread place value fails)
-      (cells-boundary (appends world thread (asked .inThread) releaseEntry (asked .room)) (inr refl) (λ cell old says. omega (arith, ap kindOf says)) (world .cells))
+      machine-append machineHolds thread (asked .inThread) releaseEntry (asked .room) value step
+      (effect-sized machine (machineHolds .sized) LOGREL thread place value fails)
+      (cells-boundary (appends machineHolds thread (asked .inThread) releaseEntry (asked .room)) (inr refl)
+      (λ cell old says. omega (arith, ap kindOf says)) (machineHolds .cells))
 
   -- LOG's entry, and the cell's versions and the entries with it
   abbrev pub storeEntry : Event
@@ -339,10 +384,13 @@ module _ {start : Beginning} {machine : Machine} {history : List Fed} {ghost : G
       setAt
       (ghost .versions)
       place
-      (record { thread = thread; lsn = logAt (machine .logs) thread .tail .next .0; after = cachedAt (machine .cache) place } ∷ ghost .versions place)
+      (record { thread = thread; lsn = logAt (machine .logs) thread .tail .next .0; after = cachedAt (machine .cache) place } ∷
+      ghost .versions place)
 
   abbrev pub loggedEntries : Entries
-  loggedEntries = viewOf (start .before) (set (machine .logs) thread (enterOf (logAt (machine .logs) thread) storeEntry)) (ghostThen storeEntry loggedVersions .event) (ghostThen storeEntry loggedVersions .time)
+  loggedEntries =
+      viewOf (start .before) (set (machine .logs) thread (enterOf (logAt (machine .logs) thread) storeEntry))
+      (ghostThen storeEntry loggedVersions .event) (ghostThen storeEntry loggedVersions .time)
 
   -- no entry is empty
   formed-not-empty : {event : Event} → Formed event → event ≡ Empty → ⊥
@@ -351,14 +399,16 @@ module _ {start : Beginning} {machine : Machine} {history : List Fed} {ghost : G
   formed-not-empty (aRelease inRange) isEmpty = omega (arith, ap kindOf isEmpty)
 
   -- an entry of a cell before the head has the region's boundary at the head after it
-  pruned-not-current : {number cell old : ℕ} → thread < 4 → Is (entriesOf start machine ghost) thread number (Store cell old) → NoBoundaryAfter (entriesOf start machine ghost) thread number → number < logAt (machine .logs) thread .head .0 → ⊥
-  pruned-not-current {number} inRange is none pruned = by-head (world .heads thread inRange)
+  pruned-not-current : {number cell old : ℕ} → thread < threadCount →
+      Is (entriesOf start machine ghost) thread number (Store cell old) →
+      NoBoundaryAfter (entriesOf start machine ghost) thread number → number < logAt (machine .logs) thread .head .0 → ⊥
+  pruned-not-current {number} inRange is none pruned = by-head (machineHolds .heads thread inRange)
     where
       by-head : HeadAt (entriesOf start machine ghost) thread → ⊥
       by-head (at-start isFirst) = let since = is .made .since in omega arith
       by-head (after-release more ends) =
           let head = logAt (machine .logs) thread .head .0 in
-          let within = world .logs thread inRange .headNext in
+          let within = machineHolds .logs thread inRange .headNext in
           by-cases
           (decLt number (head - 1))
           (λ before. true≢false (sym ends ∙ none (head - 1) before (record { since = omega arith; below = omega arith }) .1))
@@ -371,23 +421,23 @@ module _ {start : Beginning} {machine : Machine} {history : List Fed} {ghost : G
           true≢false (sym begins ∙ none (logAt (machine .logs) thread .head .0) pruned (record { since = omega arith; below = less }) .0)
 
   -- where the cell's entry is found nowhere, it has none in the thread's current region
-  pub nowhere-current : {number old : ℕ} → thread < 4 → loggedOf (logAt (machine .logs) thread) place ≡ Nowhere
+  pub nowhere-current : {number old : ℕ} → thread < threadCount → loggedOf (logAt (machine .logs) thread) place ≡ Nowhere
       → Is (entriesOf start machine ghost) thread number (Store place old) → NoBoundaryAfter (entriesOf start machine ghost) thread number
       → ⊥
   nowhere-current {number} {old} inRange isNowhere is none =
-      let holdsLog = world .logs thread inRange in
+      let holdsLog = machineHolds .logs thread inRange in
       by-cases
       (decLt number (logAt (machine .logs) thread .head .0))
       (λ pruned. pruned-not-current inRange is none pruned)
       (λ live.
-      let begins = world .begins thread inRange in
+      let begins = machineHolds .begins thread inRange in
       let ended =
       logged-nowhere
       (logAt (machine .logs) thread)
       (ghost .event thread)
       holdsLog
       place
-      (λ other from to. formed-not-empty (world .times .formed thread other (record { since = omega arith; below = to })))
+      (λ other from to. formed-not-empty (machineHolds .times .formed thread other (record { since = omega arith; below = to })))
       isNowhere
       number
       old
@@ -423,30 +473,33 @@ module _ {start : Beginning} {machine : Machine} {history : List Fed} {ghost : G
     }
 
     pub log-appends : Appends (entriesOf start machine ghost) loggedEntries (length history) thread storeEntry
-    log-appends = appends world thread (asked .inThread) storeEntry (asked .room)
+    log-appends = appends machineHolds thread (asked .inThread) storeEntry (asked .room)
 
     -- the cell's newest version leads to the new one: it is the thread's own, or it would race
-    newest-ordered : {versions : List Version} {first : ℕ} → Chain (entriesOf start machine ghost) first place versions → NewestLeads loggedEntries thread (logAt (machine .logs) thread .tail .next .0) versions
+    newest-ordered : {versions : List Version} {first : ℕ} →
+        Chain (entriesOf start machine ghost) first place versions →
+        NewestLeads loggedEntries thread (logAt (machine .logs) thread .tail .next .0) versions
     newest-ordered unlogged = none-older
     newest-ordered (linked {version} link chain) =
         let fed = tookStep LOG thread place 0 in
         let next = logAt (machine .logs) thread .tail .next .0 in
         let at = ghost .time (version .thread) (version .lsn) in
-        let past : at < length history = world .times .past (version .thread) (version .lsn) (link .says .made) in
-        let made = world .times .entryStep (link .says) in
+        let past : at < length history = machineHolds .times .past (version .thread) (version .lsn) (link .says .made) in
+        let made = machineHolds .times .entryStep (link .says) in
         let old : stepAt (andThen history fed) at ≡ stepAt history at = step-before history fed past in
         let new : stepAt (andThen history fed) (length history) ≡ fed = step-new history fed in
         let wasThread : stepAt (andThen history fed) at .thread ≡ version .thread = ap (λ (s : Fed). s .thread) old ∙ made .isThread in
         let nowThread : stepAt (andThen history fed) (length history) .thread ≡ thread = ap (λ (s : Fed). s .thread) new in
         let wasLast = last-before history fed (start .before) past ∙ made .isLast in
-        let isLast = last-append world thread (asked .inThread) storeEntry (asked .room) 0 log-step in
-        let places = places-append world thread (asked .inThread) storeEntry (asked .room) 0 log-step in
+        let isLast = last-append machineHolds thread (asked .inThread) storeEntry (asked .room) 0 log-step in
+        let places = places-append machineHolds thread (asked .inThread) storeEntry (asked .room) 0 log-step in
         leads-to
         (by-cases
         (ℕ-discrete (version .thread) thread)
         (λ same.
         let below = link .says .made .below in
-        let here : logAt (machine .logs) (version .thread) .tail .next .0 ≡ next = ap (λ (t : ℕ). logAt (machine .logs) t .tail .next .0) same in
+        let here : logAt (machine .logs) (version .thread) .tail .next .0 ≡ next =
+        ap (λ (t : ℕ). logAt (machine .logs) t .tail .next .0) same in
         subst (λ (t : ℕ). Leads loggedEntries (version .thread) (version .lsn) t next) same (Order.inThread (omega arith)))
         (λ differs.
         let conflict : Conflict (andThen history fed) at (length history) = record {
@@ -459,25 +512,32 @@ module _ {start : Beginning} {machine : Machine} {history : List Fed} {ghost : G
           sameCell = ap (λ (s : Fed). s .place) old ∙ (made .isPlace ∙ sym (ap (λ (s : Fed). s .place) new));
           oneIsLog = inl (ap (λ (s : Fed). s .kind) old ∙ made .isKind);
         } in
-        let before = log-decides machine history follows thread place (asked .inThread) (asked .inCell) .ordered (asked .noRace) at conflict in
+        let before =
+        log-decides machine history follows thread place (asked .inThread) (asked .inCell) .ordered (asked .noRace) at conflict in
         rw (wasLast, isLast, wasThread, nowThread) at (before-leads places before)))
 
     -- what LOG does to the cell
-    pub logs-cell : LogsCell (entriesOf start machine ghost) loggedEntries (length history) thread place (contentsOf start (machine .cache)) (ghost .versions) loggedVersions
+    pub logs-cell : LogsCell (entriesOf start machine ghost) loggedEntries (length history) thread place
+        (contentsOf start (machine .cache)) (ghost .versions) loggedVersions
     logs-cell =
-        let version : Version = record { thread = thread; lsn = logAt (machine .logs) thread .tail .next .0; after = cachedAt (machine .cache) place } in
+        let version : Version =
+        record { thread = thread; lsn = logAt (machine .logs) thread .tail .next .0; after = cachedAt (machine .cache) place } in
         record {
           appends = log-appends;
-          ordered = newest-ordered (world .cells .chain place);
+          ordered = newest-ordered (machineHolds .cells .chain place);
           notLogged = nowhere-current (asked .inThread) (asked .notLogged);
           versionNew = setAt-here (ghost .versions) place (version ∷ ghost .versions place);
           versionsOther = λ other differs. setAt-other (ghost .versions) place (version ∷ ghost .versions place) other differs;
         }
 
-    pub world-log : World start (effect machine LOG thread place value .machine) (andThen history (tookStep LOG thread place value)) (ghostThen storeEntry loggedVersions)
+    pub machine-log : MachineInvariant start (effect machine LOG thread place value .machine)
+        (andThen history (tookStep LOG thread place value)) (ghostThen storeEntry loggedVersions)
     unfolding effect logEffect loggedCellOf
-    world-log =
+    machine-log =
         subst
-        (λ (v : ℕ). World start (effect machine LOG thread place value .machine) (andThen history (tookStep LOG thread place v)) (ghostThen storeEntry loggedVersions))
+        (λ (v : ℕ). MachineInvariant start (effect machine LOG thread place value .machine)
+        (andThen history (tookStep LOG thread place v)) (ghostThen storeEntry loggedVersions))
         (sym (asked .noValue))
-        (world-append world thread (asked .inThread) storeEntry (asked .room) 0 log-step (effect-sized machine (world .sized) LOG thread place value fails) (cells-log logs-cell (world .cells)))
+        (machine-append machineHolds thread (asked .inThread) storeEntry (asked .room) 0 log-step
+        (effect-sized machine (machineHolds .sized) LOG thread place value fails)
+        (cells-log logs-cell (machineHolds .cells)))

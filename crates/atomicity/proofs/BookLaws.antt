@@ -13,7 +13,8 @@ use lib.Dec.{eqb}
 use lib.ListN.{length, getD, set, length-append, length-map, length-set, List·getD-append}
 use lib.Seq.{getD-append-seam, getD-set-same, getD-set-other}
 use borrow.Author.Tests.{eq-eqb, ne-eqb}
-use Rattle.reference.specs.Reference.{Region, Write, Book, openOf, write, feedStore, isOpenOf, openFrom, endOf, commitOldest, isCommittedAt, written}
+use Rattle.reference.specs.Reference.{Region, Write, Book, openOf, write, feedStore, isOpenOf, openFrom, endOf, commitOldest, isCommittedAt}
+use Rattle.reference.specs.Reference.{written}
 
 -- the region at a place; past the end the closed, uncommitted one that isCommittedAt reads there
 abbrev pub regionAt : List Region → ℕ → Region
@@ -53,11 +54,14 @@ abbrev pub NoneOf : (Region → Bool) → List Region → Type 0
 NoneOf test regions = (place : ℕ) → place < length regions → test (regionAt regions place) ≡ false
 
 -- one region more in front, of which the test doesn't hold
-later : (test : Region → Bool) (region : Region) (regions : List Region) (bound : ℕ) → test region ≡ false → ((place : ℕ) → place < bound → test (regionAt regions place) ≡ false) → (place : ℕ) → place < suc bound → test (regionAt (region ∷ regions) place) ≡ false
+later : (test : Region → Bool) (region : Region) (regions : List Region) (bound : ℕ) → test region ≡ false →
+    ((place : ℕ) → place < bound → test (regionAt regions place) ≡ false) → (place : ℕ) → place < suc bound →
+    test (regionAt (region ∷ regions) place) ≡ false
 later test region regions bound fails rest zero under = fails
 later test region regions bound fails rest (suc place) under = rest place (omega arith)
 
-first-later : {test : Region → Bool} {region : Region} {regions : List Region} {place : ℕ} → test region ≡ false → First test regions place → First test (region ∷ regions) (suc place)
+first-later : {test : Region → Bool} {region : Region} {regions : List Region} {place : ℕ} → test region ≡ false →
+    First test regions place → First test (region ∷ regions) (suc place)
 first-later {test} {region} {regions} {place} fails first =
     let under = first .inRange in
     record {
@@ -67,7 +71,8 @@ first-later {test} {region} {regions} {place} fails first =
     }
 
 -- one region less in front
-pub first-rest : {test : Region → Bool} {region : Region} {regions : List Region} {place : ℕ} → First test (region ∷ regions) (suc place) → First test regions place
+pub first-rest : {test : Region → Bool} {region : Region} {regions : List Region} {place : ℕ} →
+    First test (region ∷ regions) (suc place) → First test regions place
 first-rest first = record {
   inRange = le-of-suc-le-suc (first .inRange);
   holds = first .holds;
@@ -79,7 +84,8 @@ pub first-or-none : (test : Region → Bool) (regions : List Region) → ((place
 first-or-none test [] = inr (λ place under. absurd (not-suc-le-zero under))
 first-or-none test (region ∷ regions) = by-test (test region) refl (first-or-none test regions)
   where
-    by-test : (holds : Bool) → test region ≡ holds → ((place : ℕ) × First test regions place) ⊎ NoneOf test regions → ((place : ℕ) × First test (region ∷ regions) place) ⊎ NoneOf test (region ∷ regions)
+    by-test : (holds : Bool) → test region ≡ holds → ((place : ℕ) × First test regions place) ⊎ NoneOf test regions →
+        ((place : ℕ) × First test (region ∷ regions) place) ⊎ NoneOf test (region ∷ regions)
     by-test true holds rest =
         inl (
           0,
@@ -96,12 +102,14 @@ first-or-none test (region ∷ regions) = by-test (test region) refl (first-or-n
         rest
 
 -- the thread's open region is the first open one of its
-pub open-first : (thread : ℕ) (regions : List Region) (place from : ℕ) → First (isOpenOf thread) regions place → openFrom thread regions from ≡ some (from + place)
+pub open-first : (thread : ℕ) (regions : List Region) (place from : ℕ) → First (isOpenOf thread) regions place →
+    openFrom thread regions from ≡ some (from + place)
 unfolding openFrom
 open-first thread [] place from first = absurd (not-suc-le-zero (first .inRange))
 open-first thread (region ∷ regions) zero from first = rw (first .holds, add-zero from)
 open-first thread (region ∷ regions) (suc place) from first =
-    rw (first .before 0 (omega arith), add-suc from place, ← suc-add from place) (open-first thread regions place (suc from) (first-rest first))
+    rw (first .before 0 (omega arith), add-suc from place, ← suc-add from place)
+    (open-first thread regions place (suc from) (first-rest first))
 
 pub open-none : (thread : ℕ) (regions : List Region) (from : ℕ) → NoneOf (isOpenOf thread) regions → openFrom thread regions from ≡ none
 unfolding openFrom
@@ -110,7 +118,8 @@ open-none thread (region ∷ regions) from fails =
     rw (fails 0 (omega arith)) (open-none thread regions (suc from) (λ place under. fails (suc place) (omega arith)))
 
 -- the thread's first uncommitted region is committed, and nothing else changes
-pub commit-first : (thread : ℕ) (regions : List Region) (place : ℕ) → First (isUncommittedOf thread) regions place → commitOldest thread regions ≡ set regions place (committedOf (regionAt regions place))
+pub commit-first : (thread : ℕ) (regions : List Region) (place : ℕ) → First (isUncommittedOf thread) regions place →
+    commitOldest thread regions ≡ set regions place (committedOf (regionAt regions place))
 unfolding commitOldest
 commit-first thread [] place first = absurd (not-suc-le-zero (first .inRange))
 commit-first thread (region ∷ regions) zero first = rw (first .holds)
@@ -121,7 +130,8 @@ pub commit-none : (thread : ℕ) (regions : List Region) → NoneOf (isUncommitt
 unfolding commitOldest
 commit-none thread [] fails = refl
 commit-none thread (region ∷ regions) fails =
-    rw (fails 0 (omega arith)) (ap (λ (rest : List Region). region ∷ rest) (commit-none thread regions (λ place under. fails (suc place) (omega arith))))
+    rw (fails 0 (omega arith))
+    (ap (λ (rest : List Region). region ∷ rest) (commit-none thread regions (λ place under. fails (suc place) (omega arith))))
 
 pub commit-length : (thread : ℕ) (regions : List Region) → length (commitOldest thread regions) ≡ length regions
 commit-length thread regions =
@@ -131,19 +141,25 @@ commit-length thread regions =
     (first-or-none (isUncommittedOf thread) regions)
 
 -- the region that is committed, and each other one
-pub region-committed : (thread : ℕ) (regions : List Region) (place : ℕ) → First (isUncommittedOf thread) regions place → regionAt (commitOldest thread regions) place ≡ committedOf (regionAt regions place)
+pub region-committed : (thread : ℕ) (regions : List Region) (place : ℕ) → First (isUncommittedOf thread) regions place →
+    regionAt (commitOldest thread regions) place ≡ committedOf (regionAt regions place)
 region-committed thread regions place first =
-    ap (λ (rest : List Region). regionAt rest place) (commit-first thread regions place first) ∙ getD-set-same regions place _ _ (first .inRange)
+    ap (λ (rest : List Region). regionAt rest place) (commit-first thread regions place first) ∙
+    getD-set-same regions place _ _ (first .inRange)
 
-pub region-uncommitted : (thread : ℕ) (regions : List Region) (place other : ℕ) → First (isUncommittedOf thread) regions place → (other ≡ place → ⊥) → regionAt (commitOldest thread regions) other ≡ regionAt regions other
+pub region-uncommitted : (thread : ℕ) (regions : List Region) (place other : ℕ) →
+    First (isUncommittedOf thread) regions place → (other ≡ place → ⊥) →
+    regionAt (commitOldest thread regions) other ≡ regionAt regions other
 region-uncommitted thread regions place other first differs =
-    ap (λ (rest : List Region). regionAt rest other) (commit-first thread regions place first) ∙ getD-set-other regions place other _ _ differs
+    ap (λ (rest : List Region). regionAt rest other) (commit-first thread regions place first) ∙
+    getD-set-other regions place other _ _ differs
 
 -- ending a thread's open region: each region with no open one of the thread
 pub ended-length : (thread : ℕ) (regions : List Region) → length (map (endOf thread) regions) ≡ length regions
 ended-length thread regions = length-map regions (endOf thread)
 
-pub region-ended : (thread : ℕ) (regions : List Region) (place : ℕ) → place < length regions → regionAt (map (endOf thread) regions) place ≡ endOf thread (regionAt regions place)
+pub region-ended : (thread : ℕ) (regions : List Region) (place : ℕ) → place < length regions →
+    regionAt (map (endOf thread) regions) place ≡ endOf thread (regionAt regions place)
 region-ended thread [] place under = absurd (not-suc-le-zero under)
 region-ended thread (region ∷ regions) zero under = refl
 region-ended thread (region ∷ regions) (suc place) under = region-ended thread regions place (le-of-suc-le-suc under)
@@ -162,14 +178,16 @@ ended-other thread region differs = rw (ne-eqb (region .thread) thread differs)
 pub snoc-length : (regions : List Region) (region : Region) → length (regions ++ (region ∷ [])) ≡ suc (length regions)
 snoc-length regions region = let sum = length-append regions (region ∷ []) in omega arith
 
-pub region-old : (regions : List Region) (region : Region) (place : ℕ) → place < length regions → regionAt (regions ++ (region ∷ [])) place ≡ regionAt regions place
+pub region-old : (regions : List Region) (region : Region) (place : ℕ) → place < length regions →
+    regionAt (regions ++ (region ∷ [])) place ≡ regionAt regions place
 region-old regions region place under = List·getD-append regions (region ∷ []) _ place under
 
 pub region-new : (regions : List Region) (region : Region) → regionAt (regions ++ (region ∷ [])) (length regions) ≡ region
 region-new regions region = getD-append-seam regions region [] _
 
 -- a STORE under the thread's open region goes to the end of the list
-pub store-writes : (book : Book) (thread cell value : ℕ) {place : ℕ} → openOf book thread ≡ some place → feedStore book thread cell value .writes ≡ book .writes ++ (record { cell = cell; value = value; region = place } ∷ [])
+pub store-writes : (book : Book) (thread cell value : ℕ) {place : ℕ} → openOf book thread ≡ some place →
+    feedStore book thread cell value .writes ≡ book .writes ++ (record { cell = cell; value = value; region = place } ∷ [])
 store-writes book thread cell value isOpen = rw isOpen
 
 pub store-regions : (book : Book) (thread cell value : ℕ) → feedStore book thread cell value .regions ≡ book .regions
@@ -184,7 +202,8 @@ abbrev pub writtenOne : List Region → List ℕ → Write → List ℕ
 writtenOne regions cells store = cond (isCommittedAt regions (store .region)) (set cells (store .cell) (store .value)) cells
 
 -- a store at the end of the list is written last
-pub written-snoc : (regions : List Region) (cells : List ℕ) (stores : List Write) (store : Write) → written regions cells (stores ++ (store ∷ [])) ≡ writtenOne regions (written regions cells stores) store
+pub written-snoc : (regions : List Region) (cells : List ℕ) (stores : List Write) (store : Write) →
+    written regions cells (stores ++ (store ∷ [])) ≡ writtenOne regions (written regions cells stores) store
 unfolding written
 written-snoc regions cells [] store = refl
 written-snoc regions cells (first ∷ stores) store = written-snoc regions (writtenOne regions cells first) stores store
@@ -197,48 +216,32 @@ pub written-length : (regions : List Region) (cells : List ℕ) (stores : List W
 unfolding written
 written-length regions cells [] = refl
 written-length regions cells (store ∷ stores) =
-    written-length regions (writtenOne regions cells store) stores ∙ one-length (isCommittedAt regions (store .region)) cells (store .cell) (store .value)
+    written-length regions (writtenOne regions cells store) stores ∙
+    one-length (isCommittedAt regions (store .region)) cells (store .cell) (store .value)
 
 -- a store under a committed region is what its cell holds; under another one it changes nothing, nor does it another cell
-pub written-committed : (regions : List Region) (cells : List ℕ) (stores : List Write) (store : Write) → store .cell < length cells → isCommittedAt regions (store .region) ≡ true → getD (written regions cells (stores ++ (store ∷ []))) (store .cell) 0 ≡ store .value
+pub written-committed : (regions : List Region) (cells : List ℕ) (stores : List Write) (store : Write) →
+    store .cell < length cells → isCommittedAt regions (store .region) ≡ true →
+    getD (written regions cells (stores ++ (store ∷ []))) (store .cell) 0 ≡ store .value
 written-committed regions cells stores store under isCommitted =
     let same = written-length regions cells stores in
     rw (written-snoc regions cells stores store, isCommitted)
     (getD-set-same (written regions cells stores) (store .cell) (store .value) 0 (omega arith))
 
-pub written-uncommitted : (regions : List Region) (cells : List ℕ) (stores : List Write) (store : Write) → isCommittedAt regions (store .region) ≡ false → written regions cells (stores ++ (store ∷ [])) ≡ written regions cells stores
+pub written-uncommitted : (regions : List Region) (cells : List ℕ) (stores : List Write) (store : Write) →
+    isCommittedAt regions (store .region) ≡ false →
+    written regions cells (stores ++ (store ∷ [])) ≡ written regions cells stores
 written-uncommitted regions cells stores store notCommitted = rw (written-snoc regions cells stores store, notCommitted)
 
-one-other : (isCommitted : Bool) (cells : List ℕ) (cell value other : ℕ) → (other ≡ cell → ⊥) → getD (cond isCommitted (set cells cell value) cells) other 0 ≡ getD cells other 0
+one-other : (isCommitted : Bool) (cells : List ℕ) (cell value other : ℕ) → (other ≡ cell → ⊥) →
+    getD (cond isCommitted (set cells cell value) cells) other 0 ≡ getD cells other 0
 one-other true cells cell value other differs = getD-set-other cells cell other value 0 differs
 one-other false cells cell value other differs = refl
 
-pub written-other : (regions : List Region) (cells : List ℕ) (stores : List Write) (store : Write) (cell : ℕ) → (store .cell ≡ cell → ⊥) → getD (written regions cells (stores ++ (store ∷ []))) cell 0 ≡ getD (written regions cells stores) cell 0
+pub written-other : (regions : List Region) (cells : List ℕ) (stores : List Write) (store : Write) (cell : ℕ) →
+    (store .cell ≡ cell → ⊥) →
+    getD (written regions cells (stores ++ (store ∷ []))) cell 0 ≡ getD (written regions cells stores) cell 0
 written-other regions cells stores store cell differs =
     rw (written-snoc regions cells stores store)
-    (one-other (isCommittedAt regions (store .region)) (written regions cells stores) (store .cell) (store .value) cell (λ same. differs (sym same)))
-
--- what one cell holds after these stores, by the stores to that cell only
-unfoldable pub writtenCell : List Region → ℕ → ℕ → List Write → ℕ
-writtenCell regions cell value [] = value
-writtenCell regions cell value (store ∷ stores) =
-    writtenCell regions cell (cond (eqb (store .cell) cell) (cond (isCommittedAt regions (store .region)) (store .value) value) value) stores
-
-pub written-cell : (regions : List Region) (cells : List ℕ) (stores : List Write) (cell : ℕ) → cell < length cells → getD (written regions cells stores) cell 0 ≡ writtenCell regions cell (getD cells cell 0) stores
-unfolding written writtenCell
-written-cell regions cells [] cell under = refl
-written-cell regions cells (store ∷ stores) cell under =
-    let same = one-length (isCommittedAt regions (store .region)) cells (store .cell) (store .value) in
-    written-cell regions (writtenOne regions cells store) stores cell (omega arith) ∙
-    ap (λ (value : ℕ). writtenCell regions cell value stores) (one-cell (isCommittedAt regions (store .region)))
-  where
-    one-cell : (isCommitted : Bool) → getD (cond isCommitted (set cells (store .cell) (store .value)) cells) cell 0 ≡ cond (eqb (store .cell) cell) (cond isCommitted (store .value) (getD cells cell 0)) (getD cells cell 0)
-    one-cell isCommitted =
-        by-cases
-        (ℕ-discrete (store .cell) cell)
-        (λ same. rw (eq-eqb _ _ same) (at-cell isCommitted same))
-        (λ differs. rw (ne-eqb _ _ differs) (one-other isCommitted cells (store .cell) (store .value) cell (λ same. differs (sym same))))
-      where
-        at-cell : (isCommitted : Bool) → store .cell ≡ cell → getD (cond isCommitted (set cells (store .cell) (store .value)) cells) cell 0 ≡ cond isCommitted (store .value) (getD cells cell 0)
-        at-cell true same = rw same (getD-set-same cells cell (store .value) 0 under)
-        at-cell false same = refl
+    (one-other (isCommittedAt regions (store .region)) (written regions cells stores) (store .cell) (store .value) cell
+    (λ same. differs (sym same)))

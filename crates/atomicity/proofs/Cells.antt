@@ -28,7 +28,8 @@ latest start (version ∷ older) = version .after
 -- the newest version, if there is one, leads to this point
 pub data NewestLeads (entries : Entries) (thread number : ℕ) : List Version → Type 0 where
   none-older : NewestLeads entries thread number []
-  leads-to : {version : Version} {older : List Version} → Leads entries (version .thread) (version .lsn) thread number → NewestLeads entries thread number (version ∷ older)
+  leads-to : {version : Version} {older : List Version} → Leads entries (version .thread) (version .lsn) thread number →
+      NewestLeads entries thread number (version ∷ older)
 
 -- a version over the older ones
 pub record Link (entries : Entries) (start cell : ℕ) (version : Version) (older : List Version) : Type 0 where
@@ -38,7 +39,8 @@ pub record Link (entries : Entries) (start cell : ℕ) (version : Version) (olde
 
 pub data Chain (entries : Entries) (start cell : ℕ) : List Version → Type 0 where
   unlogged : Chain entries start cell []
-  linked : {version : Version} {older : List Version} → Link entries start cell version older → Chain entries start cell older → Chain entries start cell (version ∷ older)
+  linked : {version : Version} {older : List Version} → Link entries start cell version older →
+      Chain entries start cell older → Chain entries start cell (version ∷ older)
 
 -- the entry is one of the versions
 pub data In (thread number : ℕ) : List Version → Type 0 where
@@ -47,15 +49,19 @@ pub data In (thread number : ℕ) : List Version → Type 0 where
 
 -- the entry is the newest version
 pub data Newest (thread number : ℕ) : List Version → Type 0 where
-  newest : {version : Version} {older : List Version} → version .thread ≡ thread → version .lsn ≡ number → Newest thread number (version ∷ older)
+  newest : {version : Version} {older : List Version} → version .thread ≡ thread → version .lsn ≡ number →
+      Newest thread number (version ∷ older)
 
 -- no region begins or ends in the thread's log after this LSN
 abbrev pub NoBoundaryAfter : Entries → ℕ → ℕ → Type 0
-NoBoundaryAfter entries thread number = (later : ℕ) → number < later → Made entries thread later → (isAcquire (entries .event thread later) ≡ false) × (isRelease (entries .event thread later) ≡ false)
+NoBoundaryAfter entries thread number =
+    (later : ℕ) → number < later → Made entries thread later →
+    (isAcquire (entries .event thread later) ≡ false) × (isRelease (entries .event thread later) ≡ false)
 
 -- no live version is durable
 abbrev pub NoneDurable : Entries → List Version → Type 0
-NoneDurable entries versions = (thread number : ℕ) → In thread number versions → entries .head thread ≤ number → number ≤ entries .durable thread → ⊥
+NoneDurable entries versions =
+    (thread number : ℕ) → In thread number versions → entries .head thread ≤ number → number ≤ entries .durable thread → ⊥
 
 -- what the cells hold
 pub record Contents : Type 0 where
@@ -68,27 +74,32 @@ pub record CellsHold (entries : Entries) (contents : Contents) (versions : ℕ �
   pub cachedIs : (cell : ℕ) → contents .cached cell ≡ latest (contents .start cell) (versions cell)
   pub complete : {thread number cell old : ℕ} → Is entries thread number (Store cell old) → In thread number (versions cell)
   -- a cell's entry in a thread's current region is its newest version
-  pub current : {thread number cell old : ℕ} → Is entries thread number (Store cell old) → NoBoundaryAfter entries thread number → Newest thread number (versions cell)
+  pub current : {thread number cell old : ℕ} → Is entries thread number (Store cell old) →
+      NoBoundaryAfter entries thread number → Newest thread number (versions cell)
   pub kept : (cell : ℕ) → NoneDurable entries (versions cell) → contents .persisted cell ≡ contents .cached cell
 
 -- entries that grow keep a chain: what is not durable was not
-newest-grow : {old new : Entries} {now thread number : ℕ} {versions : List Version} → Grows old new now → NewestLeads old thread number versions → NewestLeads new thread number versions
+newest-grow : {old new : Entries} {now thread number : ℕ} {versions : List Version} → Grows old new now →
+    NewestLeads old thread number versions → NewestLeads new thread number versions
 newest-grow grows none-older = none-older
 newest-grow grows (leads-to leads) = leads-to (leads-grow grows leads)
 
-link-grow : {old new : Entries} {now start cell : ℕ} {version : Version} {older : List Version} → Grows old new now → Link old start cell version older → Link new start cell version older
+link-grow : {old new : Entries} {now start cell : ℕ} {version : Version} {older : List Version} → Grows old new now →
+    Link old start cell version older → Link new start cell version older
 link-grow {version} grows link = record {
   says = still-is grows (link .says);
   ordered = newest-grow grows (link .ordered);
   unstored = λ notDurable. let grew = grows .durableGrows (version .thread) in link .unstored (omega arith);
 }
 
-pub chain-grow : {old new : Entries} {now start cell : ℕ} {versions : List Version} → Grows old new now → Chain old start cell versions → Chain new start cell versions
+pub chain-grow : {old new : Entries} {now start cell : ℕ} {versions : List Version} → Grows old new now →
+    Chain old start cell versions → Chain new start cell versions
 chain-grow grows unlogged = unlogged
 chain-grow grows (linked link chain) = linked (link-grow grows link) (chain-grow grows chain)
 
 -- an entry that was current before
-was-current : {old new : Entries} {now thread number : ℕ} → Grows old new now → NoBoundaryAfter new thread number → NoBoundaryAfter old thread number
+was-current : {old new : Entries} {now thread number : ℕ} → Grows old new now → NoBoundaryAfter new thread number →
+    NoBoundaryAfter old thread number
 was-current {old} {new} {now} {thread} grows none later after made =
     let found = none later after (grows .still thread later made) in
     rw (grows .saysSame thread later made) at found
@@ -96,10 +107,16 @@ was-current {old} {new} {now} {thread} grows none later after made =
 -- what a step that makes no entry may do to a cell's persisted content
 pub data PersistCell (old new : Entries) (contents after : Contents) (versions : ℕ → List Version) (cell : ℕ) : Type 0 where
   made-equal : after .persisted cell ≡ contents .cached cell → PersistCell old new contents after versions cell
-  unchanged : after .persisted cell ≡ contents .persisted cell → ((thread number : ℕ) → In thread number (versions cell) → old .head thread ≤ number → number < new .head thread → ⊥) → PersistCell old new contents after versions cell
+  unchanged : after .persisted cell ≡ contents .persisted cell →
+      ((thread number : ℕ) → In thread number (versions cell) → old .head thread ≤ number → number < new .head thread → ⊥) →
+      PersistCell old new contents after versions cell
 
 -- no entry more, nothing stored: a cell's persisted content becomes its cached one or stays, and stays only where no version was pruned
-pub cells-keep : {old new : Entries} {now : ℕ} {contents after : Contents} {versions : ℕ → List Version} → Keeps old new now → ((cell : ℕ) → after .start cell ≡ contents .start cell) → ((cell : ℕ) → after .cached cell ≡ contents .cached cell) → ((cell : ℕ) → PersistCell old new contents after versions cell) → CellsHold old contents versions → CellsHold new after versions
+pub cells-keep : {old new : Entries} {now : ℕ} {contents after : Contents} {versions : ℕ → List Version} →
+    Keeps old new now → ((cell : ℕ) → after .start cell ≡ contents .start cell) →
+    ((cell : ℕ) → after .cached cell ≡ contents .cached cell) →
+    ((cell : ℕ) → PersistCell old new contents after versions cell) → CellsHold old contents versions →
+    CellsHold new after versions
 cells-keep {old} {new} {now} {contents} {after} {versions} keeps starts cacheds persists holds = record {
   chain = λ cell. rw (starts cell) (chain-grow (keeps .grows) (holds .chain cell));
   cachedIs = λ cell. cacheds cell ∙ (holds .cachedIs cell ∙ ap (λ (start : ℕ). latest start (versions cell)) (sym (starts cell)));
@@ -108,7 +125,8 @@ cells-keep {old} {new} {now} {contents} {after} {versions} keeps starts cacheds 
   kept = λ cell none. by-persist cell none (persists cell);
 }
   where
-    by-persist : (cell : ℕ) → NoneDurable new (versions cell) → PersistCell old new contents after versions cell → after .persisted cell ≡ after .cached cell
+    by-persist : (cell : ℕ) → NoneDurable new (versions cell) → PersistCell old new contents after versions cell →
+        after .persisted cell ≡ after .cached cell
     by-persist cell none (made-equal equal) = equal ∙ sym (cacheds cell)
     by-persist cell none (unchanged same notPruned) =
         same ∙ (holds .kept cell (λ thread number isIn live isDurable.
@@ -119,7 +137,10 @@ cells-keep {old} {new} {now} {contents} {after} {versions} keeps starts cacheds 
         (λ notGone. none thread number isIn (omega (arith, notGone)) (omega arith))) ∙ sym (cacheds cell))
 
 -- an ACQUIRE or a RELEASE entry: no version more
-pub cells-boundary : {old new : Entries} {now thread : ℕ} {event : Event} {contents : Contents} {versions : ℕ → List Version} → Appends old new now thread event → (isAcquire event ≡ true) ⊎ (isRelease event ≡ true) → ((cell value : ℕ) → event ≡ Store cell value → ⊥) → CellsHold old contents versions → CellsHold new contents versions
+pub cells-boundary : {old new : Entries} {now thread : ℕ} {event : Event} {contents : Contents} {versions : ℕ → List Version} →
+    Appends old new now thread event → (isAcquire event ≡ true) ⊎ (isRelease event ≡ true) →
+    ((cell value : ℕ) → event ≡ Store cell value → ⊥) → CellsHold old contents versions →
+    CellsHold new contents versions
 cells-boundary {old} {new} {now} {thread} {event} {contents} {versions} appends isBoundary notStore holds = record {
   chain = λ cell. chain-grow (appends .grows) (holds .chain cell);
   cachedIs = holds .cachedIs;
@@ -144,7 +165,8 @@ cells-boundary {old} {new} {now} {thread} {event} {contents} {versions} appends 
 }
 
 -- the newest version leads on
-newest-leads : {entries : Entries} {thread number other later : ℕ} {versions : List Version} → Newest thread number versions → NewestLeads entries other later versions → Leads entries thread number other later
+newest-leads : {entries : Entries} {thread number other later : ℕ} {versions : List Version} →
+    Newest thread number versions → NewestLeads entries other later versions → Leads entries thread number other later
 newest-leads {entries} {thread} {number} {other} {later} (newest {version} isThread isNumber) (leads-to leads) =
     subst
     (λ (t : ℕ). Leads entries t number other later)
@@ -152,7 +174,9 @@ newest-leads {entries} {thread} {number} {other} {later} (newest {version} isThr
     (subst (λ (n : ℕ). Leads entries (version .thread) n other later) isNumber leads)
 
 -- an entry that stays current has no RELEASE from it on, so nothing leads from it to another thread
-pub stays-in-thread : {entries : Entries} {thread number other later cell value : ℕ} → Is entries thread number (Store cell value) → NoBoundaryAfter entries thread number → Leads entries thread number other later → thread ≡ other
+pub stays-in-thread : {entries : Entries} {thread number other later cell value : ℕ} →
+    Is entries thread number (Store cell value) → NoBoundaryAfter entries thread number →
+    Leads entries thread number other later → thread ≡ other
 stays-in-thread {entries} {thread} {number} {other} {later} is none leads =
     ⊎-elim
     (λ stays. stays .0)
@@ -182,16 +206,20 @@ pub record LogsCell (old new : Entries) (now thread cell : ℕ) (contents : Cont
   pub versionNew : after cell ≡ record { thread = thread; lsn = old .next thread; after = contents .cached cell } ∷ versions cell
   pub versionsOther : (other : ℕ) → (other ≡ cell → ⊥) → after other ≡ versions other
 
-module _ {old new : Entries} {now thread cell : ℕ} {contents : Contents} {versions after : ℕ → List Version} (step : LogsCell old new now thread cell contents versions after) (holds : CellsHold old contents versions) where
+module _ {old new : Entries} {now thread cell : ℕ} {contents : Contents} {versions after : ℕ → List Version}
+    (step : LogsCell old new now thread cell contents versions after) (holds : CellsHold old contents versions) where
   -- what holds of the cell's versions with the new one, and of every other cell's, holds of each cell's
-  by-cell : (P : ℕ → List Version → Type 0) → P cell (record { thread = thread; lsn = old .next thread; after = contents .cached cell } ∷ versions cell) → ((other : ℕ) → (other ≡ cell → ⊥) → P other (versions other)) → (other : ℕ) → P other (after other)
+  by-cell : (P : ℕ → List Version → Type 0) →
+      P cell (record { thread = thread; lsn = old .next thread; after = contents .cached cell } ∷ versions cell) →
+      ((other : ℕ) → (other ≡ cell → ⊥) → P other (versions other)) → (other : ℕ) → P other (after other)
   by-cell P self others other =
       by-cases
       (ℕ-discrete other cell)
       (λ same. subst (λ (c : ℕ). P c (after c)) (sym same) (rw (step .versionNew) self))
       (λ differs. rw (step .versionsOther other differs) (others other differs))
 
-  no-older-current : {other number value : ℕ} → Is old other number (Store cell value) → Is new other number (Store cell value) → NoBoundaryAfter new other number → ⊥
+  no-older-current : {other number value : ℕ} → Is old other number (Store cell value) →
+      Is new other number (Store cell value) → NoBoundaryAfter new other number → ⊥
   no-older-current {other} {number} before is none =
       let wasNone = was-current (step .appends .grows) none in
       let same = stays-in-thread is none (newest-leads (holds .current before wasNone) (step .ordered)) in
@@ -248,8 +276,13 @@ module _ {old new : Entries} {now thread cell : ℕ} {contents : Contents} {vers
     kept =
         by-cell
         (λ c versions. NoneDurable new versions → contents .persisted c ≡ contents .cached c)
-        (λ none. holds .kept cell (λ other number isIn live isDurable. none other number (there isIn) (rw (step .appends .headSame other) live) (rw (step .appends .durableSame other) isDurable)))
-        (λ c differs none. holds .kept c (λ other number isIn live isDurable. none other number isIn (rw (step .appends .headSame other) live) (rw (step .appends .durableSame other) isDurable)));
+        (λ none. holds .kept cell
+        (λ other number isIn live isDurable.
+        none other number (there isIn) (rw (step .appends .headSame other) live) (rw (step .appends .durableSame other) isDurable)))
+        (λ c differs none.
+        holds .kept c
+        (λ other number isIn live isDurable.
+        none other number isIn (rw (step .appends .headSame other) live) (rw (step .appends .durableSame other) isDurable)));
   }
 
 -- the newest version with another content after it
@@ -263,33 +296,41 @@ pub record NewestDurable (entries : Entries) (thread number : ℕ) (versions : L
   pub live : entries .head thread ≤ number
   pub isDurable : number ≤ entries .durable thread
 
-restored-in : {thread number : ℕ} {versions : List Version} (value : ℕ) → In thread number versions → In thread number (restored value versions)
+restored-in : {thread number : ℕ} {versions : List Version} (value : ℕ) → In thread number versions →
+    In thread number (restored value versions)
 restored-in value (here isThread isNumber) = here isThread isNumber
 restored-in value (there isIn) = there isIn
 
-restored-newest : {thread number : ℕ} {versions : List Version} (value : ℕ) → Newest thread number versions → Newest thread number (restored value versions)
+restored-newest : {thread number : ℕ} {versions : List Version} (value : ℕ) → Newest thread number versions →
+    Newest thread number (restored value versions)
 restored-newest value (newest isThread isNumber) = newest isThread isNumber
 
 newest-in : {thread number : ℕ} {versions : List Version} → Newest thread number versions → In thread number versions
 newest-in (newest isThread isNumber) = here isThread isNumber
 
-restored-latest : {thread number : ℕ} {versions : List Version} (start value : ℕ) → Newest thread number versions → value ≡ latest start (restored value versions)
+restored-latest : {thread number : ℕ} {versions : List Version} (start value : ℕ) → Newest thread number versions →
+    value ≡ latest start (restored value versions)
 restored-latest start value (newest isThread isNumber) = refl
 
-restored-chain : {entries : Entries} {start cell thread number : ℕ} {versions : List Version} (value : ℕ) → Newest thread number versions → number ≤ entries .durable thread → Chain entries start cell versions → Chain entries start cell (restored value versions)
+restored-chain : {entries : Entries} {start cell thread number : ℕ} {versions : List Version} (value : ℕ) →
+    Newest thread number versions → number ≤ entries .durable thread → Chain entries start cell versions →
+    Chain entries start cell (restored value versions)
 restored-chain {entries} {start} {cell} {thread} {number} value (newest {version} {older} isThread isNumber) isDurable (linked link chain) =
     linked
     (record {
       says = link .says;
       ordered = link .ordered;
       unstored = λ notDurable.
-          let under : entries .durable thread < number = subst (λ (t : ℕ). entries .durable t < number) isThread (subst (λ (n : ℕ). entries .durable (version .thread) < n) isNumber notDurable) in
+          let under : entries .durable thread < number =
+          subst (λ (t : ℕ). entries .durable t < number) isThread
+          (subst (λ (n : ℕ). entries .durable (version .thread) < n) isNumber notDurable) in
           absurd (omega arith);
     })
     chain
 
 -- what a STORE to a cell asks and does: its newest version is live and durable, and has the value stored after it
-pub record StoresCell (entries : Entries) (thread number cell value : ℕ) (contents stored : Contents) (versions after : ℕ → List Version) : Type 0 where
+pub record StoresCell (entries : Entries) (thread number cell value : ℕ) (contents stored : Contents)
+    (versions after : ℕ → List Version) : Type 0 where
   pub newestDurable : NewestDurable entries thread number (versions cell)
   pub startSame : (other : ℕ) → stored .start other ≡ contents .start other
   pub cachedSelf : stored .cached cell ≡ value
@@ -298,8 +339,12 @@ pub record StoresCell (entries : Entries) (thread number cell value : ℕ) (cont
   pub versionsSelf : after cell ≡ restored value (versions cell)
   pub versionsOther : (other : ℕ) → (other ≡ cell → ⊥) → after other ≡ versions other
 
-module _ {entries : Entries} {thread number cell value : ℕ} {contents stored : Contents} {versions after : ℕ → List Version} (step : StoresCell entries thread number cell value contents stored versions after) (holds : CellsHold entries contents versions) where
-  by-stored : (P : ℕ → List Version → Type 0) → P cell (restored value (versions cell)) → ((other : ℕ) → (other ≡ cell → ⊥) → P other (versions other)) → (other : ℕ) → P other (after other)
+module _ {entries : Entries} {thread number cell value : ℕ} {contents stored : Contents}
+    {versions after : ℕ → List Version}
+    (step : StoresCell entries thread number cell value contents stored versions after)
+    (holds : CellsHold entries contents versions) where
+  by-stored : (P : ℕ → List Version → Type 0) → P cell (restored value (versions cell)) →
+      ((other : ℕ) → (other ≡ cell → ⊥) → P other (versions other)) → (other : ℕ) → P other (after other)
   by-stored P self others other =
       by-cases
       (ℕ-discrete other cell)
@@ -319,7 +364,9 @@ module _ {entries : Entries} {thread number cell value : ℕ} {contents stored :
             by-stored
             (λ c versions. stored .cached c ≡ latest (stored .start c) versions)
             (step .cachedSelf ∙ restored-latest (stored .start cell) value isNewest)
-            (λ other differs. step .cachedOther other differs ∙ (holds .cachedIs other ∙ ap (λ (start : ℕ). latest start (versions other)) (sym (step .startSame other))));
+            (λ other differs.
+            step .cachedOther other differs ∙
+            (holds .cachedIs other ∙ ap (λ (start : ℕ). latest start (versions other)) (sym (step .startSame other))));
         complete = λ {thread = other} {number = found} {cell = logged} {old} is.
             by-stored
             (λ c versions. Is entries other found (Store c old) → In other found versions)
@@ -337,6 +384,7 @@ module _ {entries : Entries} {thread number cell value : ℕ} {contents stored :
         kept =
             by-stored
             (λ c versions. NoneDurable entries versions → stored .persisted c ≡ stored .cached c)
-            (λ none. absurd (none thread number (restored-in value (newest-in isNewest)) (step .newestDurable .live) (step .newestDurable .isDurable)))
+            (λ none. absurd
+            (none thread number (restored-in value (newest-in isNewest)) (step .newestDurable .live) (step .newestDurable .isDurable)))
             (λ c differs none. step .persistedSame c ∙ (holds .kept c none ∙ sym (step .cachedOther c differs)));
       }

@@ -1,5 +1,5 @@
 -- Demand 3 holds, and every lawful order of undoing ends in the same cells.
--- The parts: `run-whole` (all concerns, for every list of steps from any beginning), `undoable` (what the image of a cut has), `recovers`
+-- The parts: `run-holds` (all concerns, for every list of steps from any beginning), `undoable` (what the image of a cut has), `recovers`
 -- and `any-order` (the undoing lemma), and `before-leads` with `leads-pruned` (committed regions are closed under happens-before).
 use Prim.Native.Nat.{ℕ}
 use mathlib.Core.Path.{_≡_, sym, ap, _∙_}
@@ -19,8 +19,9 @@ use Rattle.machine.specs.declared.Machine.{Machine}
 use Rattle.machine.proofs.Beginnings.{machineWith, AllIdle}
 use Rattle.machine.proofs.Counts.{Counted, effect-counted, begin-counted, after-counted}
 use Rattle.machine.proofs.StepLaws.{after-keeps}
+use Rattle.image.specs.Stored.{storedLogs}
 use Rattle.recovery.specs.Recover.{recoverOf}
-use Rattle.recovery.specs.Undo.{storedLogs, undoStart}
+use Rattle.recovery.specs.Undo.{undoStart}
 use Rattle.reference.specs.Reference.{emptyBook, cellsOf, isCommittedAt}
 use Rattle.atomicity.specs.AnyOrder.{AnyOrder}
 use Rattle.atomicity.specs.Demand3.{Recovers, Demand3}
@@ -30,42 +31,42 @@ use Rattle.atomicity.proofs.Leads.{leads-pruned}
 use Rattle.atomicity.proofs.Places.{lastOf, before-leads}
 use Rattle.atomicity.proofs.Recovered.{reads, heads-good, entries-good, final, final-length, undoable}
 use Rattle.atomicity.proofs.Undoing.{any-order, recovers}
-use Rattle.atomicity.proofs.RunInvariant.{Whole, bookOf}
-use Rattle.atomicity.proofs.RunInvariantHolds.{begin-whole, run-whole, start-length, after-whole}
+use Rattle.atomicity.proofs.RunInvariant.{RunInvariant, bookOf}
+use Rattle.atomicity.proofs.RunInvariantHolds.{begin-run, run-holds, start-length, after-run}
 use Rattle.atomicity.proofs.MachineInvariant.{Beginning, entriesOf}
 
 -- with each committed region, every region that happens before it is committed
-closed-regions : {start : Beginning} {machine : Machine} {history : List Fed} → Whole start machine history → (earlier later : ℕ)
+closed-regions : {start : Beginning} {machine : Machine} {history : List Fed} → RunInvariant start machine history → (earlier later : ℕ)
     → RegionBefore (start .cells) history earlier later → isCommittedAt (bookOf start history .regions) later ≡ true
     → isCommittedAt (bookOf start history .regions) earlier ≡ true
-closed-regions {start} {machine} {history} whole earlier later before isCommitted =
-    let entries = entriesOf start machine (whole .ghost) in
-    let first = whole .joined (before .step) earlier (before .isStep) in
-    let second = whole .joined (before .laterStep) later (before .isLaterStep) in
-    let leads = before-leads (whole .world .places) (before .happensBefore) in
+closed-regions {start} {machine} {history} runHolds earlier later before isCommitted =
+    let entries = entriesOf start machine (runHolds .ghost) in
+    let first = runHolds .joined (before .step) earlier (before .isStep) in
+    let second = runHolds .joined (before .laterStep) later (before .isLaterStep) in
+    let leads = before-leads (runHolds .machineHolds .places) (before .happensBefore) in
     let head = entries .head (stepAt history (before .laterStep) .thread) in
     let number = lastOf (entries .before) history (before .laterStep) in
     let isPruned : ltb number head ≡ true =
-    sym (whole .regions .committed (second .0)) ∙
+    sym (runHolds .regions .committed (second .0)) ∙
     (ap (isCommittedAt (bookOf start history .regions)) (second .1) ∙ isCommitted) in
-    let pruned = leads-pruned (whole .world .prunes) leads (ltb-true number head isPruned) in
-    sym (ap (isCommittedAt (bookOf start history .regions)) (first .1)) ∙ (whole .regions .committed (first .0) ∙ lt-ltb _ _ pruned)
+    let pruned = leads-pruned (runHolds .machineHolds .prunes) leads (ltb-true number head isPruned) in
+    sym (ap (isCommittedAt (bookOf start history .regions)) (first .1)) ∙ (runHolds .regions .committed (first .0) ∙ lt-ltb _ _ pruned)
 
 -- where all concerns hold, recovery accepts the image of a cut and finds the reference model's cells
-whole-recovers : {start : Beginning} {machine : Machine} {history : List Fed} → Whole start machine history → Counted machine
+run-recovers : {start : Beginning} {machine : Machine} {history : List Fed} → RunInvariant start machine history → Counted machine
     → length (start .cells) ≡ cellCount → (buffer : List ℕ) → length buffer ≡ cellCount
     → (recoverOf (imageOf machine) buffer .answer ≡ Accepted 0)
     × (recoverOf (imageOf machine) buffer .buffer ≡ cellsOf (bookOf start history))
-whole-recovers {start} {machine} {history} whole counted isLength buffer isBuffer =
+run-recovers {start} {machine} {history} runHolds counted isLength buffer isBuffer =
     recovers
     (imageOf machine)
     buffer
-    (final whole counted isLength)
-    (reads whole counted isLength .lengthIs)
+    (final runHolds counted isLength)
+    (reads runHolds counted isLength .lengthIs)
     isBuffer
-    (heads-good whole counted isLength)
-    (entries-good whole counted isLength)
-    (undoable whole counted isLength)
+    (heads-good runHolds counted isLength)
+    (entries-good runHolds counted isLength)
+    (undoable runHolds counted isLength)
 
 -- over a lent buffer of 1,156 words the cut writes its image
 pub cut-writes : (machine : Machine) (image : List ℕ) → length image ≡ imageWords
@@ -80,8 +81,8 @@ pub begin-recovers : (cells : List ℕ) (logs : List Log) → length cells ≡ c
     × (recoverOf (imageOf (after (machineWith cells logs) steps)) buffer .buffer
     ≡ cellsOf (fedBook (emptyBook cells) (historyOf (machineWith cells logs) steps)))
 begin-recovers cells logs isLength all steps buffer isBuffer =
-    whole-recovers
-    (run-whole (machineWith cells logs) (begin-whole cells logs isLength all) steps)
+    run-recovers
+    (run-holds (machineWith cells logs) (begin-run cells logs isLength all) steps)
     (after-keeps Counted effect-counted (machineWith cells logs) (begin-counted cells logs all) steps)
     isLength
     buffer
@@ -91,16 +92,16 @@ begin-recovers cells logs isLength all steps buffer isBuffer =
 pub cut-recovers : (words : List ℕ) (steps : List Step) (image buffer : List ℕ) → length image ≡ imageWords → length buffer ≡ cellCount
     → Recovers words steps image buffer
 cut-recovers words steps image buffer isImage isBuffer =
-    let whole = after-whole words steps in
+    let runHolds = after-run words steps in
     let counted = after-counted words steps in
     let written = cut-writes (machineAfter words steps) image isImage in
-    let found = whole-recovers whole counted (start-length words) buffer isBuffer in
+    let found = run-recovers runHolds counted (start-length words) buffer isBuffer in
     record {
       cuts = ap (λ (cut : Outcome). cut .answer) written;
       accepts = ap (λ (cut : Outcome). recoverOf (cut .buffer) buffer .answer) written ∙ found .0;
       cells = ap (λ (cut : Outcome). recoverOf (cut .buffer) buffer .buffer) written ∙ found .1;
-      all128 = final-length whole counted (start-length words);
-      closed = closed-regions whole;
+      all128 = final-length runHolds counted (start-length words);
+      closed = closed-regions runHolds;
     }
 
 -- for every start, every list of steps and every cut
@@ -110,7 +111,7 @@ demand-3 words steps cut image buffer within isImage isBuffer = cut-recovers wor
 -- and whatever lawful order the entries are undone in
 pub any-lawful-order : AnyOrder
 any-lawful-order words steps cut end within undoing allTaken =
-    let whole = after-whole words (take cut steps) in
+    let runHolds = after-run words (take cut steps) in
     let counted = after-counted words (take cut steps) in
     let start = start-length words in
     let image = imageOf (machineAfter words (take cut steps)) in
@@ -118,8 +119,8 @@ any-lawful-order words steps cut end within undoing allTaken =
     (storedLogs image)
     (undoStart image .left)
     (undoStart image .cells)
-    (final whole counted start)
-    (undoable whole counted start)
+    (final runHolds counted start)
+    (undoable runHolds counted start)
     end
     undoing
     allTaken

@@ -25,7 +25,8 @@ releases (step ∷ steps) thread = cond (isReleaseBy step thread) 1 0 + releases
 abbrev pub epochAt : List Fed → ℕ → ℕ
 epochAt history place = suc (releases (take place history) (stepAt history place .thread))
 
-releases-next : (history : List Fed) (next : Fed) (thread : ℕ) → releases (andThen history next) thread ≡ releases history thread + cond (isReleaseBy next thread) 1 0
+releases-next : (history : List Fed) (next : Fed) (thread : ℕ) →
+    releases (andThen history next) thread ≡ releases history thread + cond (isReleaseBy next thread) 1 0
 unfolding releases
 releases-next [] next thread = omega arith
 releases-next (step ∷ history) next thread = omega (arith, releases-next history next thread)
@@ -45,9 +46,11 @@ module _ (history : List Fed) (next : Fed) (thread : ℕ) where
   releases-thread isOther = releases-stay (rw (ne-eqb (next .thread) thread isOther, and-false))
 
   -- an accepted RELEASE is one more
-  pub releases-more : next .accepted ≡ true → next .kind ≡ 6 → next .thread ≡ thread → releases (andThen history next) thread ≡ suc (releases history thread)
+  pub releases-more : next .accepted ≡ true → next .kind ≡ 6 → next .thread ≡ thread →
+      releases (andThen history next) thread ≡ suc (releases history thread)
   releases-more isAccepted isRelease isThread =
-      releases-next history next thread ∙ rw (isAccepted, eq-eqb (next .kind) 6 isRelease, eq-eqb (next .thread) thread isThread) (omega arith)
+      releases-next history next thread ∙
+      rw (isAccepted, eq-eqb (next .kind) 6 isRelease, eq-eqb (next .thread) thread isThread) (omega arith)
 
   -- and they never become fewer
   pub releases-grow : releases history thread ≤ releases (andThen history next) thread

@@ -1,4 +1,5 @@
--- Runs with their history: what a start call has, and each refused step and each effect keeps, holds of every machine and history that steps lead to.
+-- Runs with their history: what a start call has, and each refused step and each effect keeps, holds of every machine and history that
+-- steps lead to.
 use Prim.Native.Nat.{ℕ, _<_}
 use mathlib.Core.Path.{_≡_, refl, _∙_, ap}
 use mathlib.Core.Bool.{Bool, true, false, cond}
@@ -10,8 +11,10 @@ use borrow.Author.Tests.{ltb-true, eqb-true, not-false}
 use Rattle.sizes.specs.Sizes.{threadCount}
 use Rattle.answer.specs.Answer.{isAccepted}
 use Rattle.answer.proofs.RefusalLaws.{AllFail}
-use Rattle.machine.specs.Effects.{loadEffect, logEffect, storeEffect, acquireEffect, logReleaseEffect, releaseEffect, flushEffect, flushLogEffect, fenceEffect, pruneEffect, evictEffect, evictLogEffect, effect}
-use Rattle.kinds.specs.Kinds.{Kind, LOAD, LOG, STORE, ACQUIRE, LOGREL, RELEASE, FLUSH, FLUSHLOG, FENCE, PRUNE, EVICT, EVICTLOG, kindOf, fieldsOf, isOver, inputTests}
+use Rattle.machine.specs.Effects.{loadEffect, logEffect, storeEffect, acquireEffect, logReleaseEffect, releaseEffect, flushEffect}
+use Rattle.machine.specs.Effects.{flushLogEffect, fenceEffect, pruneEffect, evictEffect, evictLogEffect, effect}
+use Rattle.kinds.specs.Kinds.{Kind, LOAD, LOG, STORE, ACQUIRE, LOGREL, RELEASE, FLUSH, FLUSHLOG, FENCE, PRUNE, EVICT, EVICTLOG, kindOf}
+use Rattle.kinds.specs.Kinds.{fieldsOf, isOver, inputTests}
 use Rattle.machine.specs.Refusals.{stateTests}
 use Rattle.machine.specs.Runs.{Step, stepWith, after}
 use Rattle.machine.specs.declared.Machine.{Machine}
@@ -38,13 +41,21 @@ kindNumber EVICTLOG = 12
 pub kind-number : (number : ℕ) (kind : Kind) → kindOf number ≡ some kind → number ≡ kindNumber kind
 unfolding kindOf
 kind-number number kind isKind =
-    pick LOAD (pick LOG (pick STORE (pick ACQUIRE (pick LOGREL (pick RELEASE (pick FLUSH (pick FLUSHLOG (pick FENCE (pick PRUNE (pick EVICT (pick EVICTLOG (λ isNone. let never : _≡_ {A = ℕ} 0 1 = cc in absurd (omega arith))))))))))))) isKind
+    pick LOAD (pick LOG
+    (pick STORE (pick ACQUIRE
+    (pick LOGREL
+    (pick RELEASE
+    (pick FLUSH (pick FLUSHLOG
+    (pick FENCE (pick PRUNE
+    (pick EVICT (pick EVICTLOG (λ isNone. let never : _≡_ {A = ℕ} 0 1 = cc in absurd (omega arith))))))))))))) isKind
   where
-    pick : (found : Kind) {rest : Option Kind} → (rest ≡ some kind → number ≡ kindNumber kind) → cond (eqb number (kindNumber found)) (some found) rest ≡ some kind → number ≡ kindNumber kind
+    pick : (found : Kind) {rest : Option Kind} → (rest ≡ some kind → number ≡ kindNumber kind) →
+        cond (eqb number (kindNumber found)) (some found) rest ≡ some kind → number ≡ kindNumber kind
     pick found {rest} other isKind = by-test (eqb number (kindNumber found)) refl isKind
       where
         by-test : (test : Bool) → eqb number (kindNumber found) ≡ test → cond test (some found) rest ≡ some kind → number ≡ kindNumber kind
-        by-test true isFound isKind = let sameKind : found ≡ kind = cc in eqb-true number (kindNumber found) isFound ∙ ap kindNumber sameKind
+        by-test true isFound isKind =
+            let sameKind : found ≡ kind = cc in eqb-true number (kindNumber found) isFound ∙ ap kindNumber sameKind
         by-test false isElse isKind = other isKind
 
 -- the step of a kind, accepted
@@ -66,8 +77,10 @@ module _ (machine : Machine) (kind : Kind) (thread place value : ℕ) (fails : A
   state-fails = fails .1 .1 .1
 
 -- an effect's answer is acceptance
-pub effect-accepted : (machine : Machine) (kind : Kind) (thread place value : ℕ) → isAccepted (effect machine kind thread place value .answer) ≡ true
-unfolding effect loadEffect logEffect storeEffect acquireEffect logReleaseEffect releaseEffect flushEffect flushLogEffect fenceEffect pruneEffect evictEffect evictLogEffect
+pub effect-accepted : (machine : Machine) (kind : Kind) (thread place value : ℕ) →
+    isAccepted (effect machine kind thread place value .answer) ≡ true
+unfolding effect loadEffect logEffect storeEffect acquireEffect logReleaseEffect releaseEffect flushEffect
+    flushLogEffect fenceEffect pruneEffect evictEffect evictLogEffect
 effect-accepted machine LOAD thread place value = refl
 effect-accepted machine LOG thread place value = refl
 effect-accepted machine STORE thread place value = refl
@@ -82,9 +95,15 @@ effect-accepted machine EVICT thread place value = refl
 effect-accepted machine EVICTLOG thread place value = refl
 
 -- what is kept by each refused step and by each effect whose tests all failed
-module _ (P : Machine → List Fed → Type 0) (onRefusal : (machine : Machine) (history : List Fed) → P machine history → (next : Fed) → next .accepted ≡ false → P machine (andThen history next)) (onEffect : (machine : Machine) (history : List Fed) → P machine history → (kind : Kind) (thread place value : ℕ) → AllFail (testsOf machine kind thread place value) → P (effect machine kind thread place value .machine) (andThen history (tookStep kind thread place value))) where
+module _ (P : Machine → List Fed → Type 0)
+    (onRefusal : (machine : Machine) (history : List Fed) → P machine history → (next : Fed) → next .accepted ≡ false →
+    P machine (andThen history next))
+    (onEffect : (machine : Machine) (history : List Fed) → P machine history → (kind : Kind) (thread place value : ℕ) →
+    AllFail (testsOf machine kind thread place value) →
+    P (effect machine kind thread place value .machine) (andThen history (tookStep kind thread place value))) where
   -- every step keeps it
-  pub step-keeps-history : (machine : Machine) (history : List Fed) → P machine history → (step : Step) → P (stepWith machine step .machine) (andThen history (fedWith step (isAccepted (stepWith machine step .answer))))
+  pub step-keeps-history : (machine : Machine) (history : List Fed) → P machine history → (step : Step) →
+      P (stepWith machine step .machine) (andThen history (fedWith step (isAccepted (stepWith machine step .answer))))
   step-keeps-history machine history holds step =
       step-cases
       machine
@@ -100,7 +119,8 @@ module _ (P : Machine → List Fed → Type 0) (onRefusal : (machine : Machine) 
       (onEffect machine history holds kind (step .thread) (step .place) (step .value) fails))
 
   -- and so does every list of steps
-  pub run-keeps : (machine : Machine) (history : List Fed) → P machine history → (steps : List Step) → P (after machine steps) (history ++ historyOf machine steps)
+  pub run-keeps : (machine : Machine) (history : List Fed) → P machine history → (steps : List Step) →
+      P (after machine steps) (history ++ historyOf machine steps)
   unfolding after historyOf
   run-keeps machine history holds [] = rw append-nil holds
   run-keeps machine history holds (step ∷ steps) =

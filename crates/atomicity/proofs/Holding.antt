@@ -17,6 +17,7 @@ use Rattle.ring.specs.declared.Releasing.the-variants.{Nothing, Lock as Releasi
 use Rattle.accesses.specs.Clocks.{clockAt, joinOf, raisedOf, noClock}
 use Rattle.machine.specs.Holds.{noLog}
 use Rattle.locks.specs.Locks.{noLock, isHeld, isHeldBy}
+use Rattle.machine.proofs.AcceptedMeans.{held-by-nobody}
 use Rattle.machine.proofs.Beginnings.{AllIdle, releases-nothing}
 use Rattle.accesses.specs.declared.Clock.{Clock}
 use Rattle.locks.specs.declared.Holder.{Holder}
@@ -35,7 +36,8 @@ holderOf locks lock = getD locks lock noLock .holder
 
 -- what the holders and the closing threads say of the clocks
 pub record Held (logs : List Log) (locks : List Lock) (clocks lockClocks : List Clock) : Type 0 where
-  pub knowsLock : (lock thread : ℕ) → holderOf locks lock ≡ Thread thread → (other : ℕ) → numbersOf lockClocks lock other ≤ numbersOf clocks thread other
+  pub knowsLock : (lock thread : ℕ) → holderOf locks lock ≡ Thread thread → (other : ℕ) →
+      numbersOf lockClocks lock other ≤ numbersOf clocks thread other
   pub releasesHeld : (thread lock : ℕ) → releasingOf logs thread ≡ ReleasingLock lock → holderOf locks lock ≡ Thread thread
 
 -- two variants are not one
@@ -44,10 +46,6 @@ nobody-holds isNobody isThread = let never : _≡_ {A = ℕ} 0 1 = cc in absurd 
 
 pub nothing-released : {A : Type 0} {releasing : Releasing} {lock : ℕ} → releasing ≡ Nothing → releasing ≡ ReleasingLock lock → A
 nothing-released isNothing isLock = let never : _≡_ {A = ℕ} 0 1 = cc in absurd (omega arith)
-
-not-held : (holder : Holder) → isHeld holder ≡ false → holder ≡ Nobody
-not-held Nobody isFree = refl
-not-held (Thread thread) isFree = let never : _≡_ {A = ℕ} 0 1 = cc in absurd (omega arith)
 
 -- what the tests on a holder and on a closing thread tell
 pub releasing-lock : (releasing : Releasing) (lock : ℕ) → isReleasingLock releasing lock ≡ true → releasing ≡ ReleasingLock lock
@@ -59,15 +57,19 @@ held-by Nobody thread isHeld = absurd (false≢true isHeld)
 held-by (Thread holder) thread isHeld = ap Thread (eqb-true holder thread isHeld)
 
 -- at a beginning nothing is held
-pub begin-held : (logs : List Log) → AllIdle logs → (clocks lockClocks : List Clock) → Held logs (replicate lockCount noLock) clocks lockClocks
+pub begin-held : (logs : List Log) → AllIdle logs → (clocks lockClocks : List Clock) →
+    Held logs (replicate lockCount noLock) clocks lockClocks
 begin-held logs all clocks lockClocks = record {
-  knowsLock = λ lock thread isHolder. nobody-holds (replicate-cases (λ free. free .holder ≡ Nobody) lockCount lock noLock noLock refl refl) isHolder;
+  knowsLock = λ lock thread isHolder.
+      nobody-holds (replicate-cases (λ free. free .holder ≡ Nobody) lockCount lock noLock noLock refl refl) isHolder;
   releasesHeld = λ thread lock isReleasing. nothing-released (releases-nothing logs all thread) isReleasing;
 }
 
 module _ (logs : List Log) (locks : List Lock) (clocks lockClocks : List Clock) (held : Held logs locks clocks lockClocks) where
   -- another log of a thread keeps it, if the thread holds the lock that it then releases
-  pub held-log : (thread : ℕ) (log : Log) → thread < length logs → ((lock : ℕ) → log .tail .releasing ≡ ReleasingLock lock → holderOf locks lock ≡ Thread thread) → Held (set logs thread log) locks clocks lockClocks
+  pub held-log : (thread : ℕ) (log : Log) → thread < length logs →
+      ((lock : ℕ) → log .tail .releasing ≡ ReleasingLock lock → holderOf locks lock ≡ Thread thread) →
+      Held (set logs thread log) locks clocks lockClocks
   held-log thread log inside releases = record {
     knowsLock = held .knowsLock;
     releasesHeld = λ other lock.
@@ -94,11 +96,14 @@ module _ (logs : List Log) (locks : List Lock) (clocks lockClocks : List Clock) 
       stays other =
           by-cases
           (decLt lock (length locks))
-          (λ inside. set-cases locks lock state noLock inside (λ other state. state .holder ≡ holderOf locks other) sameHolder (λ other differs. refl) other)
+          (λ inside. set-cases locks lock state noLock inside (λ other state. state .holder ≡ holderOf locks other)
+          sameHolder (λ other differs. refl) other)
           (λ outside. rw (set-out locks lock state (omega arith)))
 
   -- a thread that takes a free lock and joins its clock knows what the lock does
-  pub held-acquire : (thread lock : ℕ) (state : Lock) → thread < length clocks → lock < length locks → state .holder ≡ Thread thread → isHeld (holderOf locks lock) ≡ false → Held logs (set locks lock state) (set clocks thread (joinOf (getD clocks thread noClock) (getD lockClocks lock noClock))) lockClocks
+  pub held-acquire : (thread lock : ℕ) (state : Lock) → thread < length clocks → lock < length locks →
+      state .holder ≡ Thread thread → isHeld (holderOf locks lock) ≡ false →
+      Held logs (set locks lock state) (set clocks thread (joinOf (getD clocks thread noClock) (getD lockClocks lock noClock))) lockClocks
   held-acquire thread lock state insideClocks insideLocks isHolder isFree = record {
     knowsLock =
         set-cases
@@ -107,7 +112,8 @@ module _ (logs : List Log) (locks : List Lock) (clocks lockClocks : List Clock) 
         state
         noLock
         insideLocks
-        (λ other state. (owner : ℕ) → state .holder ≡ Thread owner → (number : ℕ) → numbersOf lockClocks other number ≤ numbersOf joinedClocks owner number)
+        (λ other state. (owner : ℕ) → state .holder ≡ Thread owner → (number : ℕ) →
+        numbersOf lockClocks other number ≤ numbersOf joinedClocks owner number)
         (λ owner isOwner number.
         let sameThread : owner ≡ thread = cc in
         rw (sameThread, getD-set-same clocks thread joined noClock insideClocks, clockAt-join) (omega arith))
@@ -120,7 +126,7 @@ module _ (logs : List Log) (locks : List Lock) (clocks lockClocks : List Clock) 
         noLock
         insideLocks
         (λ other state. holderOf locks other ≡ Thread owner → state .holder ≡ Thread owner)
-        (λ wasHeld. nobody-holds (not-held (holderOf locks lock) isFree) wasHeld)
+        (λ wasHeld. nobody-holds (held-by-nobody (holderOf locks lock) isFree) wasHeld)
         (λ other differs wasHeld. wasHeld)
         other
         (held .releasesHeld owner other isReleasing);
@@ -146,7 +152,11 @@ module _ (logs : List Log) (locks : List Lock) (clocks lockClocks : List Clock) 
           owner
 
   -- a thread that releases a lock gives it up, and only its own number rises
-  pub held-release : (thread lock : ℕ) (log : Log) (state : Lock) (clock : Clock) → thread < length clocks → thread < length logs → lock < length locks → thread < threadCount → log .tail .releasing ≡ Nothing → state .holder ≡ Nobody → holderOf locks lock ≡ Thread thread → Held (set logs thread log) (set locks lock state) (set clocks thread (raisedOf (getD clocks thread noClock) thread)) (set lockClocks lock clock)
+  pub held-release : (thread lock : ℕ) (log : Log) (state : Lock) (clock : Clock) → thread < length clocks →
+      thread < length logs → lock < length locks → thread < threadCount → log .tail .releasing ≡ Nothing →
+      state .holder ≡ Nobody → holderOf locks lock ≡ Thread thread →
+      Held (set logs thread log) (set locks lock state)
+      (set clocks thread (raisedOf (getD clocks thread noClock) thread)) (set lockClocks lock clock)
   held-release thread lock log state clock insideClocks insideLogs insideLocks inRange isNothing isNobody wasHeld = record {
     knowsLock = λ other owner.
         set-cases
@@ -155,9 +165,12 @@ module _ (logs : List Log) (locks : List Lock) (clocks lockClocks : List Clock) 
         state
         noLock
         insideLocks
-        (λ other state. state .holder ≡ Thread owner → (number : ℕ) → numbersOf (set lockClocks lock clock) other number ≤ numbersOf raisedClocks owner number)
+        (λ other state. state .holder ≡ Thread owner → (number : ℕ) →
+        numbersOf (set lockClocks lock clock) other number ≤ numbersOf raisedClocks owner number)
         (λ isOwner. nobody-holds isNobody isOwner)
-        (λ other differs isOwner number. rw (getD-set-other lockClocks lock other clock noClock differs) (omega (arith, held .knowsLock other owner isOwner number, grown owner number)))
+        (λ other differs isOwner number.
+        rw (getD-set-other lockClocks lock other clock noClock differs)
+        (omega (arith, held .knowsLock other owner isOwner number, grown owner number)))
         other;
     releasesHeld = λ owner other.
         set-cases
@@ -170,7 +183,8 @@ module _ (logs : List Log) (locks : List Lock) (clocks lockClocks : List Clock) 
         (λ isReleasing. nothing-released isNothing isReleasing)
         (λ owner differs isReleasing.
         let wasOwner = held .releasesHeld owner other isReleasing in
-        ap (λ (state : Lock). state .holder) (getD-set-other locks lock other state noLock (isElse owner other differs wasOwner)) ∙ wasOwner)
+        ap (λ (state : Lock). state .holder) (getD-set-other locks lock other state noLock (isElse owner other differs wasOwner)) ∙
+        wasOwner)
         owner;
   }
     where

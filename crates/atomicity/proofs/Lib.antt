@@ -1,7 +1,13 @@
--- Proofs of what specs/ claims.
-pub mod Rows
-pub mod PointsHold
-pub mod EdgesHold
+-- Proofs of what specs/ claims, in the groups and the order of docs/PROOF.md. The node names the whole; files may use later ones.
+-- entries
+pub mod Logged
+-- locks
+pub mod Locks
+-- order
+pub mod Leads
+pub mod Places
+pub mod Times
+-- races
 pub mod Ordered
 pub mod Epochs
 pub mod Knowledge
@@ -10,43 +16,35 @@ pub mod AccessInvariant
 pub mod Holding
 pub mod Follows
 pub mod HistoryRuns
-pub mod StepsFollow
 pub mod RaceTests
+pub mod StepsFollow
 pub mod RaceLaw
-pub mod Logged
-pub mod Locks
-pub mod Leads
+-- cells
 pub mod Cells
 pub mod OldestLive
-pub mod Places
+-- reference model
+pub mod BookLaws
+pub mod Regions
+pub mod RegionsAppend
+pub mod RegionsPrune
+pub mod Writes
+-- all together
 pub mod LogViews
-pub mod Times
 pub mod MachineInvariant
 pub mod QuietStepsKeep
 pub mod AppendsKeep
 pub mod ReleaseKeeps
 pub mod PruneKeeps
-pub mod BookLaws
 pub mod RunInvariant
 pub mod RunInvariantHolds
-pub mod Recovered
-pub mod Demand3Holds
-pub mod LogSumHolds
-pub mod KeptOnlyHolds
-pub mod ReleaseSteps
-pub mod PrunedCounts
-pub mod PrunedLaw
-pub mod EntrySteps
-pub mod LoggedLaw
-pub mod FinishedLaw
-pub mod HolderLaw
-pub mod Regions
-pub mod RegionsPrune
-pub mod RegionsAppend
-pub mod Writes
+-- undoing
 pub mod Undoable
 pub mod UndoSteps
 pub mod UndoKeeps
 pub mod UndoEnds
 pub mod Undoing
 pub mod UndoExample
+-- image
+pub mod Recovered
+-- demand 3
+pub mod Demand3Holds

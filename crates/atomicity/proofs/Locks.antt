@@ -13,7 +13,8 @@ use Rattle.ring.specs.declared.Releasing.{Releasing}
 use Rattle.ring.specs.declared.Releasing.the-variants.{Nothing, Lock}
 use Rattle.locks.specs.declared.Holder.{Holder}
 use Rattle.locks.specs.declared.Holder.the-variants.{Nobody, Thread}
-use Rattle.atomicity.proofs.Logged.{Entries, Made, IsReleaseOf, IsAcquireOf, Keeps, Appends, still-is, was, kept-is, new-is, is-cases}
+use Rattle.atomicity.proofs.Logged.{Entries, Made, IsReleaseOf, IsAcquireOf, Keeps, Appends, still-is, was, kept-is, new-is}
+use Rattle.atomicity.proofs.Logged.{is-cases}
 
 -- which lock each thread is releasing; each lock's holder, count, and pruned RELEASEs
 pub record Locks : Type 0 where
@@ -31,34 +32,49 @@ pub record Waits (entries : Entries) (locks : Locks) (thread number lock count :
 
 pub record LocksHold (entries : Entries) (locks : Locks) : Type 0 where
   -- a RELEASE entry's step was taken, and then the count is larger, or it waits
-  pub state : {thread number lock count : ℕ} → IsReleaseOf entries thread number lock count → (count < locks .count lock) ⊎ Waits entries locks thread number lock count
+  pub state : {thread number lock count : ℕ} → IsReleaseOf entries thread number lock count →
+      (count < locks .count lock) ⊎ Waits entries locks thread number lock count
   -- one whose step was taken is durable
-  pub durable : {thread number lock count : ℕ} → IsReleaseOf entries thread number lock count → count < locks .count lock → number ≤ entries .durable thread
+  pub durable : {thread number lock count : ℕ} → IsReleaseOf entries thread number lock count →
+      count < locks .count lock → number ≤ entries .durable thread
   pub acquireCount : {thread number lock count : ℕ} → IsAcquireOf entries thread number lock count → count ≤ locks .count lock
-  pub inTime : {thread number other later lock count larger : ℕ} → IsReleaseOf entries thread number lock count → IsAcquireOf entries other later lock larger → count < larger → entries .time thread number < entries .time other later
-  pub held : {thread lock : ℕ} → locks .holder lock ≡ Thread thread → (number : ℕ) × IsAcquireOf entries thread number lock (locks .count lock)
+  pub inTime : {thread number other later lock count larger : ℕ} → IsReleaseOf entries thread number lock count →
+      IsAcquireOf entries other later lock larger → count < larger →
+      entries .time thread number < entries .time other later
+  pub held : {thread lock : ℕ} → locks .holder lock ≡ Thread thread →
+      (number : ℕ) × IsAcquireOf entries thread number lock (locks .count lock)
   pub heldWhile : {thread lock : ℕ} → locks .releasing thread ≡ Lock lock → locks .holder lock ≡ Thread thread
-  pub lastWhile : {thread lock : ℕ} → locks .releasing thread ≡ Lock lock → (number : ℕ) × (suc number ≡ entries .next thread) × IsReleaseOf entries thread number lock (locks .count lock)
+  pub lastWhile : {thread lock : ℕ} → locks .releasing thread ≡ Lock lock →
+      (number : ℕ) × (suc number ≡ entries .next thread) × IsReleaseOf entries thread number lock (locks .count lock)
   -- one RELEASE a lock and count
-  pub unique : {thread number other another lock count : ℕ} → IsReleaseOf entries thread number lock count → IsReleaseOf entries other another lock count → (thread ≡ other) × (number ≡ another)
+  pub unique : {thread number other another lock count : ℕ} → IsReleaseOf entries thread number lock count →
+      IsReleaseOf entries other another lock count → (thread ≡ other) × (number ≡ another)
   -- a RELEASE has its ACQUIRE before it in the same log
-  pub paired : {thread number lock count : ℕ} → IsReleaseOf entries thread number lock count → (before : ℕ) × IsAcquireOf entries thread before lock count × (before < number)
+  pub paired : {thread number lock count : ℕ} → IsReleaseOf entries thread number lock count →
+      (before : ℕ) × IsAcquireOf entries thread before lock count × (before < number)
 
 -- what is pruned: an ACQUIRE only when the RELEASEs of smaller counts are, and of a lock's RELEASEs the first so many
 pub record PrunesHold (entries : Entries) (locks : Locks) : Type 0 where
-  pub acquirePruned : {thread number lock count : ℕ} → IsAcquireOf entries thread number lock count → number < entries .head thread → count ≤ locks .pruned lock
-  pub releasePruned : {thread number lock count : ℕ} → IsReleaseOf entries thread number lock count → count < locks .pruned lock → number < entries .head thread
+  pub acquirePruned : {thread number lock count : ℕ} → IsAcquireOf entries thread number lock count →
+      number < entries .head thread → count ≤ locks .pruned lock
+  pub releasePruned : {thread number lock count : ℕ} → IsReleaseOf entries thread number lock count →
+      count < locks .pruned lock → number < entries .head thread
   -- no more RELEASEs of a lock are pruned than were taken
   pub prunedCount : (lock : ℕ) → locks .pruned lock ≤ locks .count lock
 
 -- across locks, pruned is closed downward
-pub pruned-before : {entries : Entries} {locks : Locks} {thread number other later lock count larger : ℕ} → PrunesHold entries locks → IsReleaseOf entries thread number lock count → IsAcquireOf entries other later lock larger → count < larger → later < entries .head other → number < entries .head thread
+pub pruned-before : {entries : Entries} {locks : Locks} {thread number other later lock count larger : ℕ} →
+    PrunesHold entries locks → IsReleaseOf entries thread number lock count →
+    IsAcquireOf entries other later lock larger → count < larger → later < entries .head other →
+    number < entries .head thread
 pruned-before holds release acquire smaller pruned =
     let bound = holds .acquirePruned acquire pruned in
     holds .releasePruned release (omega arith)
 
 -- a RELEASE with a larger ACQUIRE had its step taken, and is durable
-pub durable-before : {entries : Entries} {locks : Locks} {thread number other later lock count larger : ℕ} → LocksHold entries locks → IsReleaseOf entries thread number lock count → IsAcquireOf entries other later lock larger → count < larger → number ≤ entries .durable thread
+pub durable-before : {entries : Entries} {locks : Locks} {thread number other later lock count larger : ℕ} →
+    LocksHold entries locks → IsReleaseOf entries thread number lock count →
+    IsAcquireOf entries other later lock larger → count < larger → number ≤ entries .durable thread
 durable-before holds release acquire smaller =
     let bound = holds .acquireCount acquire in
     holds .durable release (omega arith)
@@ -77,7 +93,8 @@ pub record SameLocks (old new : Locks) : Type 0 where
   pub countSame : (lock : ℕ) → new .count lock ≡ old .count lock
 
 -- no entry more, and the same holders and counts
-pub locks-keep : {old new : Entries} {now : ℕ} {locks after : Locks} → Keeps old new now → SameLocks locks after → LocksHold old locks → LocksHold new after
+pub locks-keep : {old new : Entries} {now : ℕ} {locks after : Locks} → Keeps old new now → SameLocks locks after →
+    LocksHold old locks → LocksHold new after
 locks-keep {old} {new} {now} {locks} {after} keeps same holds = record {
   state = λ {thread} {number} {lock} {count} release.
       ⊎-elim
@@ -98,7 +115,8 @@ locks-keep {old} {new} {now} {locks} {after} keeps same holds = record {
   inTime = λ {thread} {number} {other} {later} release acquire smaller.
       let first = kept-is keeps release in
       let second = kept-is keeps acquire in
-      rw (keeps .grows .timeSame thread number (first .made), keeps .grows .timeSame other later (second .made)) (holds .inTime first second smaller);
+      rw (keeps .grows .timeSame thread number (first .made), keeps .grows .timeSame other later (second .made))
+      (holds .inTime first second smaller);
   held = λ {thread} {lock} isHeld.
       let found = holds .held (sym (same .holderSame lock) ∙ isHeld) in
       (found .0, rw (← same .countSame lock) at (still-is (keeps .grows) (found .1)));
@@ -113,10 +131,14 @@ locks-keep {old} {new} {now} {locks} {after} keeps same holds = record {
 }
 
 -- the same heads, and as many pruned RELEASEs, of at least as many
-pub prunes-keep : {old new : Entries} {now : ℕ} {locks after : Locks} → Keeps old new now → ((thread : ℕ) → new .head thread ≡ old .head thread) → ((lock : ℕ) → after .pruned lock ≡ locks .pruned lock) → ((lock : ℕ) → locks .count lock ≤ after .count lock) → PrunesHold old locks → PrunesHold new after
+pub prunes-keep : {old new : Entries} {now : ℕ} {locks after : Locks} → Keeps old new now →
+    ((thread : ℕ) → new .head thread ≡ old .head thread) → ((lock : ℕ) → after .pruned lock ≡ locks .pruned lock) →
+    ((lock : ℕ) → locks .count lock ≤ after .count lock) → PrunesHold old locks → PrunesHold new after
 prunes-keep keeps heads same grows holds = record {
-  acquirePruned = λ {thread} {number} {lock} acquire isPruned. rw (same lock) (holds .acquirePruned (kept-is keeps acquire) (rw (heads thread) at isPruned));
-  releasePruned = λ {thread} {number} {lock} release isPruned. rw (heads thread) (holds .releasePruned (kept-is keeps release) (rw (same lock) at isPruned));
+  acquirePruned = λ {thread} {number} {lock} acquire isPruned.
+      rw (same lock) (holds .acquirePruned (kept-is keeps acquire) (rw (heads thread) at isPruned));
+  releasePruned = λ {thread} {number} {lock} release isPruned.
+      rw (heads thread) (holds .releasePruned (kept-is keeps release) (rw (same lock) at isPruned));
   prunedCount = λ lock. let bound = holds .prunedCount lock in let grew = grows lock in rw (same lock) (omega arith);
 }
 
@@ -137,11 +159,13 @@ pub record AppendLocks (old new : Entries) (now thread : ℕ) (event : Event) (l
   -- an ACQUIRE has the lock's count
   pub acquireHas : {lock count : ℕ} → event ≡ Acquire lock (syncCount count) → count ≡ locks .count lock
   -- who holds a lock now held it, or acquired it just now
-  pub holderCases : {other lock : ℕ} → after .holder lock ≡ Thread other → (locks .holder lock ≡ Thread other) ⊎ ((other ≡ thread) × (event ≡ Acquire lock (syncCount (locks .count lock))))
+  pub holderCases : {other lock : ℕ} → after .holder lock ≡ Thread other →
+      (locks .holder lock ≡ Thread other) ⊎ ((other ≡ thread) × (event ≡ Acquire lock (syncCount (locks .count lock))))
   -- the thread releases a lock now only by this RELEASE
   pub releasingNew : {lock : ℕ} → after .releasing thread ≡ Lock lock → event ≡ Release lock (syncCount (locks .count lock))
 
-module _ {old new : Entries} {now thread : ℕ} {event : Event} {locks after : Locks} (step : AppendLocks old new now thread event locks after) (holds : LocksHold old locks) where
+module _ {old new : Entries} {now thread : ℕ} {event : Event} {locks after : Locks}
+    (step : AppendLocks old new now thread event locks after) (holds : LocksHold old locks) where
   -- a lock that another thread releases stays so
   waits-kept : {other number lock count : ℕ} → Waits old locks other number lock count → Waits new after other number lock count
   waits-kept {other} {number} {lock} {count} waits =
@@ -154,7 +178,8 @@ module _ {old new : Entries} {now thread : ℕ} {event : Event} {locks after : L
       }
 
   -- an old RELEASE has not the new one's lock and count
-  new-differs : {other number lock count : ℕ} {A : Type 0} → IsReleaseOf old other number lock count → event ≡ Release lock (syncCount count) → A
+  new-differs : {other number lock count : ℕ} {A : Type 0} → IsReleaseOf old other number lock count →
+      event ≡ Release lock (syncCount count) → A
   new-differs {other} {number} {lock} {count} release says =
       ⊎-elim
       (λ taken. let equal = step .releaseCount says in absurd (omega arith))
@@ -258,7 +283,8 @@ module _ {old new : Entries} {now thread : ℕ} {event : Event} {locks after : L
         (λ at.
         let found = holds .held (step .releaseHeld (sym (at .2))) in
         let equal = step .releaseCount (sym (at .2)) in
-        let acquire : IsAcquireOf new thread (found .0) lock count = subst (λ (n : ℕ). IsAcquireOf new thread (found .0) lock n) (sym equal) (still-is (step .appends .grows) (found .1)) in (
+        let acquire : IsAcquireOf new thread (found .0) lock count =
+        subst (λ (n : ℕ). IsAcquireOf new thread (found .0) lock n) (sym equal) (still-is (step .appends .grows) (found .1)) in (
           found .0,
           subst (λ (t : ℕ). IsAcquireOf new t (found .0) lock count) (sym (at .0)) acquire,
           rw (at .1) (found .1 .made .below),
@@ -302,7 +328,8 @@ pub record ReleaseLocks (old new : Entries) (now thread lock : ℕ) (locks after
   pub countSelf : after .count lock ≡ suc (locks .count lock)
   pub countOther : (other : ℕ) → (other ≡ lock → ⊥) → after .count other ≡ locks .count other
 
-module _ {old new : Entries} {now thread lock : ℕ} {locks after : Locks} (step : ReleaseLocks old new now thread lock locks after) (holds : LocksHold old locks) where
+module _ {old new : Entries} {now thread lock : ℕ} {locks after : Locks}
+    (step : ReleaseLocks old new now thread lock locks after) (holds : LocksHold old locks) where
   pub count-grows : (other : ℕ) → locks .count other ≤ after .count other
   count-grows other =
       by-cases
@@ -317,7 +344,8 @@ module _ {old new : Entries} {now thread lock : ℕ} {locks after : Locks} (step
       cc
 
   -- another thread's RELEASE that waits is of another lock
-  waits-other : {other number another count : ℕ} → (another ≡ lock → ⊥) → Waits old locks other number another count → Waits new after other number another count
+  waits-other : {other number another count : ℕ} → (another ≡ lock → ⊥) → Waits old locks other number another count →
+      Waits new after other number another count
   waits-other {other} {number} {another} {count} differs waits =
       let elsewhere : other ≡ thread → ⊥ = λ same.
       let mine = step .isReleasing in
@@ -331,7 +359,8 @@ module _ {old new : Entries} {now thread lock : ℕ} {locks after : Locks} (step
       }
 
   -- a lock that a thread still releases is another one
-  still-releasing : {other another : ℕ} → after .releasing other ≡ Lock another → (locks .releasing other ≡ Lock another) × (another ≡ lock → ⊥)
+  still-releasing : {other another : ℕ} → after .releasing other ≡ Lock another →
+      (locks .releasing other ≡ Lock another) × (another ≡ lock → ⊥)
   still-releasing {other} {another} isReleasing =
       by-cases
       (ℕ-discrete other thread)
@@ -381,7 +410,8 @@ module _ {old new : Entries} {now thread lock : ℕ} {locks after : Locks} (step
     inTime = λ {thread = first} {number} {other} {later} release acquire smaller.
         let one = kept-is (step .keeps) release in
         let two = kept-is (step .keeps) acquire in
-        rw (step .keeps .grows .timeSame first number (one .made), step .keeps .grows .timeSame other later (two .made)) (holds .inTime one two smaller);
+        rw (step .keeps .grows .timeSame first number (one .made), step .keeps .grows .timeSame other later (two .made))
+        (holds .inTime one two smaller);
     held = λ {thread = other} {lock = another} isHeld.
         by-cases
         (ℕ-discrete another lock)
@@ -419,15 +449,20 @@ pub record PruneLocks (old new : Entries) (now thread size : ℕ) (locks after :
   pub headMore : new .head thread ≡ old .head thread + size
   pub headOther : (other : ℕ) → (other ≡ thread → ⊥) → new .head other ≡ old .head other
   -- the region has an ACQUIRE only as its first entry, and 16 tested that one
-  pub acquireFirst : {number lock count : ℕ} → old .head thread ≤ number → number < old .head thread + size → IsAcquireOf old thread number lock count → number ≡ old .head thread
+  pub acquireFirst : {number lock count : ℕ} → old .head thread ≤ number → number < old .head thread + size →
+      IsAcquireOf old thread number lock count → number ≡ old .head thread
   pub awaited : {lock count : ℕ} → IsAcquireOf old thread (old .head thread) lock count → count ≤ locks .pruned lock
   -- the region is finished
   pub finished : (old .head thread + size < old .next thread) ⊎ (locks .releasing thread ≡ Nothing)
-  pub prunedCases : ((lock count : ℕ) × EndsInRelease old thread (old .head thread + size - 1) lock count locks after) ⊎ ((lock : ℕ) → after .pruned lock ≡ locks .pruned lock)
+  pub prunedCases : ((lock count : ℕ) × EndsInRelease old thread (old .head thread + size - 1) lock count locks after) ⊎
+      ((lock : ℕ) → after .pruned lock ≡ locks .pruned lock)
 
-module _ {old new : Entries} {now thread size : ℕ} {locks after : Locks} (step : PruneLocks old new now thread size locks after) (holds : LocksHold old locks) (prunes : PrunesHold old locks) where
+module _ {old new : Entries} {now thread size : ℕ} {locks after : Locks}
+    (step : PruneLocks old new now thread size locks after) (holds : LocksHold old locks)
+    (prunes : PrunesHold old locks) where
   -- the region's last RELEASE is the next one of its lock to be pruned, and its step was taken
-  next-pruned : {lock count : ℕ} → IsReleaseOf old thread (old .head thread + size - 1) lock count → (count ≡ locks .pruned lock) × (count < locks .count lock)
+  next-pruned : {lock count : ℕ} → IsReleaseOf old thread (old .head thread + size - 1) lock count →
+      (count ≡ locks .pruned lock) × (count < locks .count lock)
   next-pruned {lock} {count} release =
       let some-entry = step .notEmpty in
       let under : count ≤ locks .pruned lock =

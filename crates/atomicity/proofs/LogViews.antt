@@ -25,7 +25,8 @@ setAt function number value other = cond (eqb other number) value (function othe
 pub setAt-here : {A : Type 0} (function : ℕ → A) (number : ℕ) (value : A) → setAt function number value number ≡ value
 setAt-here function number value = rw (eq-eqb number number refl)
 
-pub setAt-other : {A : Type 0} (function : ℕ → A) (number : ℕ) (value : A) (other : ℕ) → (other ≡ number → ⊥) → setAt function number value other ≡ function other
+pub setAt-other : {A : Type 0} (function : ℕ → A) (number : ℕ) (value : A) (other : ℕ) → (other ≡ number → ⊥) →
+    setAt function number value other ≡ function other
 setAt-other function number value other differs = rw (ne-eqb other number differs)
 
 -- a thread's log
@@ -46,11 +47,14 @@ viewOf before logs event time = record {
 pub log-same : (logs : List Log) (thread : ℕ) (log : Log) → thread < length logs → logAt (set logs thread log) thread ≡ log
 log-same logs thread log inRange = getD-set-same logs thread log noLog inRange
 
-pub log-other : (logs : List Log) (thread other : ℕ) (log : Log) → (other ≡ thread → ⊥) → logAt (set logs thread log) other ≡ logAt logs other
+pub log-other : (logs : List Log) (thread other : ℕ) (log : Log) → (other ≡ thread → ⊥) →
+    logAt (set logs thread log) other ≡ logAt logs other
 log-other logs thread other log differs = getD-set-other logs thread other log noLog differs
 
 -- what holds of the new log, and of every other one, holds of each
-pub by-log : (P : ℕ → Log → Type 0) (logs : List Log) (thread : ℕ) (log : Log) → thread < length logs → P thread log → ((other : ℕ) → (other ≡ thread → ⊥) → P other (logAt logs other)) → (other : ℕ) → P other (logAt (set logs thread log) other)
+pub by-log : (P : ℕ → Log → Type 0) (logs : List Log) (thread : ℕ) (log : Log) → thread < length logs → P thread log →
+    ((other : ℕ) → (other ≡ thread → ⊥) → P other (logAt logs other)) → (other : ℕ) →
+    P other (logAt (set logs thread log) other)
 by-log P logs thread log inRange self others other =
     by-cases
     (ℕ-discrete other thread)
@@ -58,17 +62,24 @@ by-log P logs thread log inRange self others other =
     (λ differs. rw (log-other logs thread other log differs) (others other differs))
 
 -- a change of a log that makes no entry
-pub keep-view : (before : ℕ → ℕ) (logs : List Log) (event : ℕ → ℕ → Event) (time : ℕ → ℕ → ℕ) (now thread : ℕ) (log : Log) → thread < length logs → log .tail .next .0 ≡ logAt logs thread .tail .next .0 → logAt logs thread .head .0 ≤ log .head .0 → logAt logs thread .tail .durable .0 ≤ log .tail .durable .0 → Keeps (viewOf before logs event time) (viewOf before (set logs thread log) event time) now
+pub keep-view : (before : ℕ → ℕ) (logs : List Log) (event : ℕ → ℕ → Event) (time : ℕ → ℕ → ℕ) (now thread : ℕ) (log : Log) →
+    thread < length logs → log .tail .next .0 ≡ logAt logs thread .tail .next .0 →
+    logAt logs thread .head .0 ≤ log .head .0 → logAt logs thread .tail .durable .0 ≤ log .tail .durable .0 →
+    Keeps (viewOf before logs event time) (viewOf before (set logs thread log) event time) now
 keep-view before logs event time now thread log inRange sameNext headGrows durableGrows =
-    let next-kept = by-log (λ other log. log .tail .next .0 ≡ logAt logs other .tail .next .0) logs thread log inRange sameNext (λ other differs. refl) in
+    let next-kept =
+    by-log (λ other log. log .tail .next .0 ≡ logAt logs other .tail .next .0) logs thread log inRange sameNext (λ other differs. refl) in
     record {
       grows = record {
         still = λ other number made. record { since = made .since; below = rw (next-kept other) (made .below) };
         saysSame = λ other number made. refl;
         timeSame = λ other number made. refl;
         beforeSame = refl;
-        headGrows = by-log (λ other log. logAt logs other .head .0 ≤ log .head .0) logs thread log inRange headGrows (λ other differs. omega arith);
-        durableGrows = by-log (λ other log. logAt logs other .tail .durable .0 ≤ log .tail .durable .0) logs thread log inRange durableGrows (λ other differs. omega arith);
+        headGrows =
+            by-log (λ other log. logAt logs other .head .0 ≤ log .head .0) logs thread log inRange headGrows (λ other differs. omega arith);
+        durableGrows =
+            by-log (λ other log. logAt logs other .tail .durable .0 ≤ log .tail .durable .0) logs thread log inRange
+            durableGrows (λ other differs. omega arith);
       };
       nextSame = next-kept;
     }
@@ -94,7 +105,8 @@ eventsThen logs event thread said = setAt event thread (withEvent (event thread)
 abbrev pub timesThen : List Log → (ℕ → ℕ → ℕ) → ℕ → ℕ → ℕ → ℕ → ℕ
 timesThen logs time thread now = setAt time thread (setAt (time thread) (logAt logs thread .tail .next .0) now)
 
-module _ (before : ℕ → ℕ) (logs : List Log) (event : ℕ → ℕ → Event) (time : ℕ → ℕ → ℕ) (now thread : ℕ) (said : Event) (inRange : thread < length logs) where
+module _ (before : ℕ → ℕ) (logs : List Log) (event : ℕ → ℕ → Event) (time : ℕ → ℕ → ℕ) (now thread : ℕ) (said : Event)
+    (inRange : thread < length logs) where
   at-self : eventsThen logs event thread said thread ≡ withEvent (event thread) (logAt logs thread .tail .next .0) said
   at-self = setAt-here event thread (withEvent (event thread) (logAt logs thread .tail .next .0) said)
 
@@ -102,17 +114,21 @@ module _ (before : ℕ → ℕ) (logs : List Log) (event : ℕ → ℕ → Event
   time-self = setAt-here time thread (setAt (time thread) (logAt logs thread .tail .next .0) now)
 
   -- an older entry says what it said
-  older-says : (other number : ℕ) → number < logAt logs other .tail .next .0 → eventsThen logs event thread said other number ≡ event other number
+  older-says : (other number : ℕ) → number < logAt logs other .tail .next .0 →
+      eventsThen logs event thread said other number ≡ event other number
   older-says other number older =
       by-cases
       (ℕ-discrete other thread)
       (λ same.
       let earlier : number < logAt logs thread .tail .next .0 = rw same at older in
       let differs : number ≡ logAt logs thread .tail .next .0 → ⊥ = λ equal. omega arith in
-      rw same (ap (λ (f : ℕ → Event). f number) at-self ∙ withEvent-other (event thread) (logAt logs thread .tail .next .0) said number differs))
-      (λ differs. ap (λ (f : ℕ → Event). f number) (setAt-other event thread (withEvent (event thread) (logAt logs thread .tail .next .0) said) other differs))
+      rw same (ap (λ (f : ℕ → Event). f number) at-self ∙
+      withEvent-other (event thread) (logAt logs thread .tail .next .0) said number differs))
+      (λ differs. ap (λ (f : ℕ → Event). f number)
+      (setAt-other event thread (withEvent (event thread) (logAt logs thread .tail .next .0) said) other differs))
 
-  older-time : (other number : ℕ) → number < logAt logs other .tail .next .0 → timesThen logs time thread now other number ≡ time other number
+  older-time : (other number : ℕ) → number < logAt logs other .tail .next .0 →
+      timesThen logs time thread now other number ≡ time other number
   older-time other number older =
       by-cases
       (ℕ-discrete other thread)
@@ -120,21 +136,33 @@ module _ (before : ℕ → ℕ) (logs : List Log) (event : ℕ → ℕ → Event
       let earlier : number < logAt logs thread .tail .next .0 = rw same at older in
       let differs : number ≡ logAt logs thread .tail .next .0 → ⊥ = λ equal. omega arith in
       rw same (ap (λ (f : ℕ → ℕ). f number) time-self ∙ setAt-other (time thread) (logAt logs thread .tail .next .0) now number differs))
-      (λ differs. ap (λ (f : ℕ → ℕ). f number) (setAt-other time thread (setAt (time thread) (logAt logs thread .tail .next .0) now) other differs))
+      (λ differs. ap (λ (f : ℕ → ℕ). f number)
+      (setAt-other time thread (setAt (time thread) (logAt logs thread .tail .next .0) now) other differs))
 
   -- an append is one entry more
-  pub append-view : before thread < logAt logs thread .tail .next .0 → Appends (viewOf before logs event time) (viewOf before (set logs thread (enterOf (logAt logs thread) said)) (eventsThen logs event thread said) (timesThen logs time thread now)) now thread said
+  pub append-view : before thread < logAt logs thread .tail .next .0 →
+      Appends (viewOf before logs event time)
+      (viewOf before (set logs thread (enterOf (logAt logs thread) said)) (eventsThen logs event thread said)
+      (timesThen logs time thread now))
+      now thread said
   append-view since =
       let log = enterOf (logAt logs thread) said in
       let numbers = append-numbers (logAt logs thread) (payloadOf said) (closesOf said) in
       let here = log-same logs thread log inRange in
-      let next-here : logAt (set logs thread log) thread .tail .next .0 ≡ suc (logAt logs thread .tail .next .0) = rw here (numbers .nextIs ∙ omega arith) in
-      let next-grows = by-log (λ other log. logAt logs other .tail .next .0 ≤ log .tail .next .0) logs thread log inRange (rw (numbers .nextIs) (omega arith)) (λ other differs. omega arith) in
-      let head-same = by-log (λ other log. log .head .0 ≡ logAt logs other .head .0) logs thread log inRange (numbers .headIs) (λ other differs. refl) in
-      let durable-same = by-log (λ other log. log .tail .durable .0 ≡ logAt logs other .tail .durable .0) logs thread log inRange (numbers .durableIs) (λ other differs. refl) in
+      let next-here : logAt (set logs thread log) thread .tail .next .0 ≡ suc (logAt logs thread .tail .next .0) =
+      rw here (numbers .nextIs ∙ omega arith) in
+      let next-grows =
+      by-log (λ other log. logAt logs other .tail .next .0 ≤ log .tail .next .0) logs thread log inRange
+      (rw (numbers .nextIs) (omega arith)) (λ other differs. omega arith) in
+      let head-same =
+      by-log (λ other log. log .head .0 ≡ logAt logs other .head .0) logs thread log inRange (numbers .headIs) (λ other differs. refl) in
+      let durable-same =
+      by-log (λ other log. log .tail .durable .0 ≡ logAt logs other .tail .durable .0) logs thread log inRange
+      (numbers .durableIs) (λ other differs. refl) in
       record {
         grows = record {
-          still = λ other number made. let grew = next-grows other in let below = made .below in record { since = made .since; below = omega arith };
+          still = λ other number made.
+              let grew = next-grows other in let below = made .below in record { since = made .since; below = omega arith };
           saysSame = λ other number made. older-says other number (made .below);
           timeSame = λ other number made. older-time other number (made .below);
           beforeSame = refl;
@@ -143,8 +171,12 @@ module _ (before : ℕ → ℕ) (logs : List Log) (event : ℕ → ℕ → Event
         };
         nextMore = next-here;
         nextOther = λ other differs. ap (λ (log : Log). log .tail .next .0) (log-other logs thread other log differs);
-        saysNew = ap (λ (f : ℕ → Event). f (logAt logs thread .tail .next .0)) at-self ∙ withEvent-here (event thread) (logAt logs thread .tail .next .0) said;
-        timeNew = ap (λ (f : ℕ → ℕ). f (logAt logs thread .tail .next .0)) time-self ∙ setAt-here (time thread) (logAt logs thread .tail .next .0) now;
+        saysNew =
+            ap (λ (f : ℕ → Event). f (logAt logs thread .tail .next .0)) at-self ∙
+            withEvent-here (event thread) (logAt logs thread .tail .next .0) said;
+        timeNew =
+            ap (λ (f : ℕ → ℕ). f (logAt logs thread .tail .next .0)) time-self ∙
+            setAt-here (time thread) (logAt logs thread .tail .next .0) now;
         nextSince = since;
         headSame = head-same;
         durableSame = durable-same;

@@ -100,7 +100,8 @@ module _ {old new : Entries} {now thread : ℕ} {event : Event} (appends : Appen
       (λ notBefore.
       let under : number < suc (old .next thread) = rw (appends .nextMore) at (rw same at (made .below)) in
       inr (same, omega (arith, notBefore))))
-      (λ differs. inl (record { since = rw (appends .grows .beforeSame) at (made .since); below = rw (appends .nextOther other differs) at (made .below) }))
+      (λ differs. inl
+      (record { since = rw (appends .grows .beforeSame) at (made .since); below = rw (appends .nextOther other differs) at (made .below) }))
 
   pub new-made : Made new thread (old .next thread)
   new-made = record { since = rw (appends .grows .beforeSame) (appends .nextSince); below = omega (arith, appends .nextMore) }
@@ -108,7 +109,8 @@ module _ {old new : Entries} {now thread : ℕ} {event : Event} (appends : Appen
   pub new-is : Is new thread (old .next thread) event
   new-is = record { made = new-made; says = appends .saysNew }
 
-  pub is-cases : {other number : ℕ} {says : Event} → Is new other number says → Is old other number says ⊎ ((other ≡ thread) × (number ≡ old .next thread) × (says ≡ event))
+  pub is-cases : {other number : ℕ} {says : Event} → Is new other number says →
+      Is old other number says ⊎ ((other ≡ thread) × (number ≡ old .next thread) × (says ≡ event))
   is-cases {other} {number} {says} is =
       ⊎-elim
       (λ made. inl (was (appends .grows) made is))
@@ -116,6 +118,7 @@ module _ {old new : Entries} {now thread : ℕ} {event : Event} (appends : Appen
       inr (
         at .0,
         at .1,
-        sym (is .says) ∙ (ap (λ (n : ℕ). new .event other n) (at .1) ∙ (ap (λ (t : ℕ). new .event t (old .next thread)) (at .0) ∙ appends .saysNew)),
+        sym (is .says) ∙
+            (ap (λ (n : ℕ). new .event other n) (at .1) ∙ (ap (λ (t : ℕ). new .event t (old .next thread)) (at .0) ∙ appends .saysNew)),
       ))
       (made-cases (is .made))

@@ -7,6 +7,7 @@ use mathlib.Core.Bool.{true, false}
 use mathlib.Core.List.{List}
 use mathlib.Core.Logic.{inl}
 use lib.ListN.{length, getD}
+use Rattle.sizes.specs.Sizes.{threadCount}
 use Rattle.cache.specs.Cache.{cachedAt, persistedAt}
 use Rattle.cache.specs.declared.Cache.{Cache}
 use Rattle.cache.proofs.CacheLaws as CacheLaws
@@ -60,31 +61,34 @@ contentsOf start cache = record {
 -- the head stands where a region begins: at the start, after a RELEASE, or at an ACQUIRE
 pub data HeadAt (entries : Entries) (thread : ℕ) : Type 0 where
   at-start : entries .head thread ≡ suc (entries .before thread) → HeadAt entries thread
-  after-release : suc (entries .before thread) < entries .head thread → isRelease (entries .event thread (entries .head thread - 1)) ≡ true → HeadAt entries thread
-  at-acquire : entries .head thread < entries .next thread → isAcquire (entries .event thread (entries .head thread)) ≡ true → HeadAt entries thread
+  after-release : suc (entries .before thread) < entries .head thread →
+      isRelease (entries .event thread (entries .head thread - 1)) ≡ true → HeadAt entries thread
+  at-acquire : entries .head thread < entries .next thread →
+      isAcquire (entries .event thread (entries .head thread)) ≡ true → HeadAt entries thread
 
-pub record World (start : Beginning) (machine : Machine) (history : List Fed) (ghost : Ghost) : Type 0 where
+pub record MachineInvariant (start : Beginning) (machine : Machine) (history : List Fed) (ghost : Ghost) : Type 0 where
   pub sized : Sized machine
-  pub logs : (thread : ℕ) → thread < 4 → UndoHolds (logAt (machine .logs) thread) (ghost .event thread)
-  pub begins : (thread : ℕ) → thread < 4 → start .before thread < logAt (machine .logs) thread .head .0
+  pub logs : (thread : ℕ) → thread < threadCount → UndoHolds (logAt (machine .logs) thread) (ghost .event thread)
+  pub begins : (thread : ℕ) → thread < threadCount → start .before thread < logAt (machine .logs) thread .head .0
   pub cacheSized : CacheLaws.Sized (machine .cache)
   pub durableKept : CacheLaws.DurableKept (machine .cache)
   pub locks : LocksHold (entriesOf start machine ghost) (locksOf machine)
   pub prunes : PrunesHold (entriesOf start machine ghost) (locksOf machine)
-  pub heads : (thread : ℕ) → thread < 4 → HeadAt (entriesOf start machine ghost) thread
+  pub heads : (thread : ℕ) → thread < threadCount → HeadAt (entriesOf start machine ghost) thread
   pub cells : CellsHold (entriesOf start machine ghost) (contentsOf start (machine .cache)) (ghost .versions)
   pub places : PlacesHold history (entriesOf start machine ghost) (λ lock. lockOf machine lock .count .0)
   pub times : TimesHold history (entriesOf start machine ghost)
 
 -- the step makes no entry, and is no RELEASE and no ACQUIRE
 pub record Quiet (fed : Fed) : Type 0 where
-  pub thread : fed .accepted ≡ true → fed .thread < 4
+  pub thread : fed .accepted ≡ true → fed .thread < threadCount
   pub makesNone : (thread : ℕ) → makes fed thread ≡ false
   pub noRelease : fed .accepted ≡ true → fed .kind ≡ 6 → ⊥
   pub noAcquire : fed .accepted ≡ true → fed .kind ≡ 4 → ⊥
 
 -- the place of a quiet step
-pub quiet-place : {history : List Fed} {fed : Fed} {old new : Entries} {counts after : ℕ → ℕ} → Quiet fed → Keeps old new (length history) → ((lock : ℕ) → after lock ≡ counts lock) → NewPlace history fed old new counts after
+pub quiet-place : {history : List Fed} {fed : Fed} {old new : Entries} {counts after : ℕ → ℕ} → Quiet fed →
+    Keeps old new (length history) → ((lock : ℕ) → after lock ≡ counts lock) → NewPlace history fed old new counts after
 quiet-place quiet keeps same = record {
   grows = keeps .grows;
   thread = quiet .thread;
@@ -96,10 +100,16 @@ quiet-place quiet keeps same = record {
 }
 
 -- no entry more and the same heads: the head stands where it stood
-pub head-kept : {old new : Entries} {now : ℕ} → Keeps old new now → ((thread : ℕ) → new .head thread ≡ old .head thread) → ((thread number : ℕ) → new .event thread number ≡ old .event thread number) → (thread : ℕ) → HeadAt old thread → HeadAt new thread
-head-kept keeps heads events thread (at-start isFirst) = at-start (heads thread ∙ (isFirst ∙ ap (λ (given : ℕ → ℕ). suc (given thread)) (sym (keeps .grows .beforeSame))))
-head-kept keeps heads events thread (after-release more isRelease) = after-release (rw (heads thread, keeps .grows .beforeSame) more) (rw (heads thread, events thread _) isRelease)
-head-kept keeps heads events thread (at-acquire less isAcquire) = at-acquire (rw (heads thread, keeps .nextSame thread) less) (rw (heads thread, events thread _) isAcquire)
+pub head-kept : {old new : Entries} {now : ℕ} → Keeps old new now →
+    ((thread : ℕ) → new .head thread ≡ old .head thread) →
+    ((thread number : ℕ) → new .event thread number ≡ old .event thread number) → (thread : ℕ) → HeadAt old thread →
+    HeadAt new thread
+head-kept keeps heads events thread (at-start isFirst) =
+    at-start (heads thread ∙ (isFirst ∙ ap (λ (given : ℕ → ℕ). suc (given thread)) (sym (keeps .grows .beforeSame))))
+head-kept keeps heads events thread (after-release more isRelease) =
+    after-release (rw (heads thread, keeps .grows .beforeSame) more) (rw (heads thread, events thread _) isRelease)
+head-kept keeps heads events thread (at-acquire less isAcquire) =
+    at-acquire (rw (heads thread, keeps .nextSame thread) less) (rw (heads thread, events thread _) isAcquire)
 
 -- what a step that makes no entry and moves no head must show: what it does to the logs, the cache and the locks
 pub record QuietStep (start : Beginning) (machine after : Machine) (history : List Fed) (fed : Fed) (ghost next : Ghost) : Type 0 where
@@ -107,7 +117,7 @@ pub record QuietStep (start : Beginning) (machine after : Machine) (history : Li
   pub sameEvent : next .event ≡ ghost .event
   pub sameTime : next .time ≡ ghost .time
   pub sized : Sized after
-  pub logs : (thread : ℕ) → thread < 4 → UndoHolds (logAt (after .logs) thread) (ghost .event thread)
+  pub logs : (thread : ℕ) → thread < threadCount → UndoHolds (logAt (after .logs) thread) (ghost .event thread)
   pub cacheSized : CacheLaws.Sized (after .cache)
   pub durableKept : CacheLaws.DurableKept (after .cache)
   pub keeps : Keeps (entriesOf start machine ghost) (entriesOf start after ghost) (length history)
@@ -116,24 +126,27 @@ pub record QuietStep (start : Beginning) (machine after : Machine) (history : Li
   pub prunedSame : (lock : ℕ) → lockOf after lock .pruned .0 ≡ lockOf machine lock .pruned .0
   pub cells : CellsHold (entriesOf start after ghost) (contentsOf start (after .cache)) (next .versions)
 
-pub world-quiet : {start : Beginning} {machine after : Machine} {history : List Fed} {fed : Fed} {ghost next : Ghost} → QuietStep start machine after history fed ghost next → World start machine history ghost → World start after (andThen history fed) next
-world-quiet {start} {machine} {after} {history} {fed} {ghost} {next} step world =
+pub machine-quiet : {start : Beginning} {machine after : Machine} {history : List Fed} {fed : Fed} {ghost next : Ghost} →
+    QuietStep start machine after history fed ghost next → MachineInvariant start machine history ghost →
+    MachineInvariant start after (andThen history fed) next
+machine-quiet {start} {machine} {after} {history} {fed} {ghost} {next} step machineHolds =
     let countSame : (lock : ℕ) → lockOf after lock .count .0 ≡ lockOf machine lock .count .0 = step .sameLocks .countSame in
     let same : Ghost = record { event = ghost .event; time = ghost .time; versions = next .versions } in
-    let made : World start after (andThen history fed) same = record {
+    let made : MachineInvariant start after (andThen history fed) same = record {
       sized = step .sized;
       logs = step .logs;
-      begins = λ thread inRange. omega (arith, world .begins thread inRange, step .headSame thread);
+      begins = λ thread inRange. omega (arith, machineHolds .begins thread inRange, step .headSame thread);
       cacheSized = step .cacheSized;
       durableKept = step .durableKept;
-      locks = locks-keep (step .keeps) (step .sameLocks) (world .locks);
-      prunes = prunes-keep (step .keeps) (step .headSame) (step .prunedSame) (λ lock. rw (countSame lock) (omega arith)) (world .prunes);
-      heads = λ thread inRange. head-kept (step .keeps) (step .headSame) (λ other number. refl) thread (world .heads thread inRange);
+      locks = locks-keep (step .keeps) (step .sameLocks) (machineHolds .locks);
+      prunes =
+          prunes-keep (step .keeps) (step .headSame) (step .prunedSame) (λ lock. rw (countSame lock) (omega arith)) (machineHolds .prunes);
+      heads = λ thread inRange. head-kept (step .keeps) (step .headSame) (λ other number. refl) thread (machineHolds .heads thread inRange);
       cells = step .cells;
-      places = places-step (quiet-place (step .quiet) (step .keeps) countSame) (world .places);
-      times = times-keep fed (step .keeps) (world .times);
+      places = places-step (quiet-place (step .quiet) (step .keeps) countSame) (machineHolds .places);
+      times = times-keep fed (step .keeps) (machineHolds .times);
     } in
     subst
-    (λ (g : Ghost). World start after (andThen history fed) g)
+    (λ (g : Ghost). MachineInvariant start after (andThen history fed) g)
     (λ i. record { event = sym (step .sameEvent) i; time = sym (step .sameTime) i; versions = next .versions })
     made

@@ -13,7 +13,8 @@ use Rattle.undo.specs.declared.Event.the-variants.{Store}
 use Rattle.atomicity.proofs.Logged.{Entries, Made, Is}
 use Rattle.atomicity.proofs.Locks.{Locks, LocksHold, PrunesHold, durable-before}
 use Rattle.atomicity.proofs.Leads.{Leads, inThread, byLock, through, leads-pruned}
-use Rattle.atomicity.proofs.Cells.{Version, latest, NewestLeads, leads-to, Link, Chain, unlogged, linked, In, here, there, NoneDurable, Contents, CellsHold}
+use Rattle.atomicity.proofs.Cells.{Version, latest, NewestLeads, leads-to, Link, Chain, unlogged, linked, In, here, there}
+use Rattle.atomicity.proofs.Cells.{NoneDurable, Contents, CellsHold}
 
 -- the content that the newest pruned version left, or the start cell
 abbrev pub prunedValue : Entries → ℕ → List Version → ℕ
@@ -39,7 +40,8 @@ in-nothing : {A : Type 0} {thread number : ℕ} → In thread number [] → A
 in-nothing isIn = elim isIn [ ]
 
 -- a version's entry was made
-in-made : {entries : Entries} {start cell thread number : ℕ} {versions : List Version} → Chain entries start cell versions → In thread number versions → Made entries thread number
+in-made : {entries : Entries} {start cell thread number : ℕ} {versions : List Version} →
+    Chain entries start cell versions → In thread number versions → Made entries thread number
 in-made {entries} {start} {cell} {thread} {number} (linked {version} link chain) (here isThread isNumber) =
     subst
     (λ (t : ℕ). Made entries t number)
@@ -49,7 +51,8 @@ in-made (linked link chain) (there isIn) = in-made chain isIn
 
 module _ {entries : Entries} {locks : Locks} (prunes : PrunesHold entries locks) where
   -- what stands before a pruned version is pruned
-  older-pruned : {start cell thread number : ℕ} {older : List Version} → Chain entries start cell older → NewestLeads entries thread number older → number < entries .head thread → AllPruned entries older
+  older-pruned : {start cell thread number : ℕ} {older : List Version} → Chain entries start cell older →
+      NewestLeads entries thread number older → number < entries .head thread → AllPruned entries older
   older-pruned (linked {version} link chain) (leads-to leads) pruned thread number (here isThread isNumber) =
       subst
       (λ (t : ℕ). number < entries .head t)
@@ -59,7 +62,9 @@ module _ {entries : Entries} {locks : Locks} (prunes : PrunesHold entries locks)
       older-pruned chain (link .ordered) (leads-pruned prunes leads pruned) thread number isIn
 
   -- the newest version is pruned: all are
-  newest-pruned : {start cell : ℕ} {version : Version} {older : List Version} → Link entries start cell version older → Chain entries start cell older → version .lsn < entries .head (version .thread) → AllPruned entries (version ∷ older)
+  newest-pruned : {start cell : ℕ} {version : Version} {older : List Version} → Link entries start cell version older →
+      Chain entries start cell older → version .lsn < entries .head (version .thread) →
+      AllPruned entries (version ∷ older)
   newest-pruned {version} link chain pruned thread number (here isThread isNumber) =
       subst
       (λ (t : ℕ). number < entries .head t)
@@ -69,7 +74,8 @@ module _ {entries : Entries} {locks : Locks} (prunes : PrunesHold entries locks)
       older-pruned chain (link .ordered) pruned thread number isIn
 
   -- a version that is this point
-  leads-here : {thread number before earlier other later : ℕ} → Leads entries thread number before earlier → before ≡ other → earlier ≡ later → Leads entries thread number other later
+  leads-here : {thread number before earlier other later : ℕ} → Leads entries thread number before earlier →
+      before ≡ other → earlier ≡ later → Leads entries thread number other later
   leads-here {thread} {number} {before} {earlier} {other} {later} leads isThread isNumber =
       subst
       (λ (t : ℕ). Leads entries thread number t later)
@@ -77,20 +83,27 @@ module _ {entries : Entries} {locks : Locks} (prunes : PrunesHold entries locks)
       (subst (λ (n : ℕ). Leads entries thread number before n) isNumber leads)
 
   -- the newest version is the oldest live one
-  only-newest : {version : Version} {older : List Version} → AllPruned entries older → (other later : ℕ) → In other later (version ∷ older) → entries .head other ≤ later → Leads entries (version .thread) (version .lsn) other later
+  only-newest : {version : Version} {older : List Version} → AllPruned entries older → (other later : ℕ) →
+      In other later (version ∷ older) → entries .head other ≤ later →
+      Leads entries (version .thread) (version .lsn) other later
   only-newest pruned other later (here isThread isNumber) live = leads-here (inThread (omega arith)) isThread isNumber
   only-newest pruned other later (there isIn) live = let gone = pruned other later isIn in absurd (omega arith)
 
   -- an older one is
-  leads-newer : {start cell : ℕ} {version : Version} {older : List Version} (oldest : Oldest entries start cell older) → NewestLeads entries (version .thread) (version .lsn) older → (other later : ℕ) → In other later (version ∷ older) → entries .head other ≤ later → Leads entries (oldest .thread) (oldest .number) other later
+  leads-newer : {start cell : ℕ} {version : Version} {older : List Version} (oldest : Oldest entries start cell older) →
+      NewestLeads entries (version .thread) (version .lsn) older → (other later : ℕ) →
+      In other later (version ∷ older) → entries .head other ≤ later →
+      Leads entries (oldest .thread) (oldest .number) other later
   leads-newer oldest ordered other later (here isThread isNumber) live = leads-here (oldest .leadsNewest ordered) isThread isNumber
   leads-newer oldest ordered other later (there isIn) live = oldest .leads other later isIn live
 
-  leads-self : {version : Version} {older : List Version} {other later : ℕ} → NewestLeads entries other later (version ∷ older) → Leads entries (version .thread) (version .lsn) other later
+  leads-self : {version : Version} {older : List Version} {other later : ℕ} →
+      NewestLeads entries other later (version ∷ older) → Leads entries (version .thread) (version .lsn) other later
   leads-self (leads-to leads) = leads
 
   -- all are pruned and the newest decides, or there is an oldest live version
-  pub oldest-live : {start cell : ℕ} {versions : List Version} → Chain entries start cell versions → (AllPruned entries versions × (prunedValue entries start versions ≡ latest start versions)) ⊎ Oldest entries start cell versions
+  pub oldest-live : {start cell : ℕ} {versions : List Version} → Chain entries start cell versions →
+      (AllPruned entries versions × (prunedValue entries start versions ≡ latest start versions)) ⊎ Oldest entries start cell versions
   oldest-live unlogged = inl ((λ thread number isIn. in-nothing isIn), refl)
   oldest-live {start} {cell} (linked {version} {older} link chain) =
       by-cases
@@ -123,7 +136,9 @@ module _ {entries : Entries} {locks : Locks} (prunes : PrunesHold entries locks)
       (oldest-live chain))
 
 -- where no live version is durable, the newest content is the pruned one
-pub undurable-value : {entries : Entries} {start cell : ℕ} {versions : List Version} → Chain entries start cell versions → NoneDurable entries versions → latest start versions ≡ prunedValue entries start versions
+pub undurable-value : {entries : Entries} {start cell : ℕ} {versions : List Version} →
+    Chain entries start cell versions → NoneDurable entries versions →
+    latest start versions ≡ prunedValue entries start versions
 undurable-value unlogged none = refl
 undurable-value {entries} {start} {cell} (linked {version} {older} link chain) none =
     by-cases
@@ -139,9 +154,12 @@ undurable-value {entries} {start} {cell} (linked {version} {older} link chain) n
     rw (le-ltb _ _ live) (link .unstored notDurable ∙ undurable-value chain (λ thread number isIn. none thread number (there isIn))))
 
 -- what is present of each thread's log: from its head up to this end
-module _ {entries : Entries} {locks : Locks} (locksHold : LocksHold entries locks) (prunes : PrunesHold entries locks) (end : ℕ → ℕ) (durablePresent : (thread number : ℕ) → Made entries thread number → number ≤ entries .durable thread → number < end thread) where
+module _ {entries : Entries} {locks : Locks} (locksHold : LocksHold entries locks) (prunes : PrunesHold entries locks)
+    (end : ℕ → ℕ)
+    (durablePresent : (thread number : ℕ) → Made entries thread number → number ≤ entries .durable thread → number < end thread) where
   -- present is closed downward among what is live
-  pub leads-present : {thread number other later : ℕ} → Leads entries thread number other later → entries .head thread ≤ number → later < end other → number < end thread
+  pub leads-present : {thread number other later : ℕ} → Leads entries thread number other later →
+      entries .head thread ≤ number → later < end other → number < end thread
   leads-present (inThread before) live present = omega arith
   leads-present {thread} {number} (byLock release acquire smaller) live present =
       durablePresent thread number (release .made) (durable-before locksHold release acquire smaller)
@@ -158,9 +176,14 @@ module _ {entries : Entries} {locks : Locks} (locksHold : LocksHold entries lock
     pub live : entries .head thread ≤ number
     pub present : number < end thread
     pub says : Is entries thread number (Store cell (prunedValue entries (contents .start cell) versions))
-    pub leads : {other later old : ℕ} → Is entries other later (Store cell old) → entries .head other ≤ later → Leads entries thread number other later
+    pub leads : {other later old : ℕ} → Is entries other later (Store cell old) → entries .head other ≤ later →
+        Leads entries thread number other later
 
-  pub undo-cell : {contents : Contents} {versions : ℕ → List Version} → CellsHold entries contents versions → (cell : ℕ) → (((thread number old : ℕ) → Is entries thread number (Store cell old) → entries .head thread ≤ number → number < end thread → ⊥) × (contents .persisted cell ≡ prunedValue entries (contents .start cell) (versions cell))) ⊎ UndoCell contents cell (versions cell)
+  pub undo-cell : {contents : Contents} {versions : ℕ → List Version} → CellsHold entries contents versions →
+      (cell : ℕ) →
+      (((thread number old : ℕ) → Is entries thread number (Store cell old) → entries .head thread ≤ number → number < end thread → ⊥) ×
+      (contents .persisted cell ≡ prunedValue entries (contents .start cell) (versions cell))) ⊎
+      UndoCell contents cell (versions cell)
   undo-cell {contents} {versions} holds cell =
       ⊎-elim
       (λ gone.
@@ -185,7 +208,8 @@ module _ {entries : Entries} {locks : Locks} (locksHold : LocksHold entries lock
       λ thread number isIn live present. absent (leads-present (oldest .leads thread number isIn live) (oldest .live) present) in
       inl (
         (λ thread number old is live present. none thread number (holds .complete is) live present),
-        settled (λ thread number isIn live isDurable. none thread number isIn live (durablePresent thread number (in-made (holds .chain cell) isIn) isDurable)),
+        settled (λ thread number isIn live isDurable.
+            none thread number isIn live (durablePresent thread number (in-made (holds .chain cell) isIn) isDurable)),
       )))
       (oldest-live prunes (holds .chain cell))
     where

@@ -29,7 +29,8 @@ accepted-inside history place isAccepted =
     by-cases
     (decLt place (length history))
     (λ inside. inside)
-    (λ outside. absurd (false≢true (sym (ap (λ (step : Fed). step .accepted) (List·getD-eq-default history noStep (omega arith))) ∙ isAccepted)))
+    (λ outside. absurd
+    (false≢true (sym (ap (λ (step : Fed). step .accepted) (List·getD-eq-default history noStep (omega arith))) ∙ isAccepted)))
 
 -- the order goes forward, over accepted steps
 pub before-forward : {history : List Fed} {i j : ℕ} → HappensBefore history i j → i < j
@@ -106,11 +107,13 @@ abbrev pub ReleaseOf : ℕ → Fed → Type 0
 ReleaseOf lock step = (step .kind ≡ 6) × (step .place ≡ lock)
 
 -- a step reaches its own thread
-pub own-reaches : (history : List Fed) (place : ℕ) → stepAt history place .accepted ≡ true → Reaches history (StepOf (stepAt history place .thread)) place
+pub own-reaches : (history : List Fed) (place : ℕ) → stepAt history place .accepted ≡ true →
+    Reaches history (StepOf (stepAt history place .thread)) place
 own-reaches history place isAccepted = record { target = place; isAccepted = isAccepted; isSort = refl; isBefore = inl refl }
 
 -- what happens before a step reaches what that step reaches
-pub before-reaches : {history : List Fed} {Sort : Fed → Type 0} {i j : ℕ} → HappensBefore history i j → Reaches history Sort j → Reaches history Sort i
+pub before-reaches : {history : List Fed} {Sort : Fed → Type 0} {i j : ℕ} → HappensBefore history i j →
+    Reaches history Sort j → Reaches history Sort i
 before-reaches before reached = record {
   target = reached .target;
   isAccepted = reached .isAccepted;
@@ -120,13 +123,17 @@ before-reaches before reached = record {
 
 module _ (history : List Fed) (next : Fed) where
   -- an accepted step is an old one, or the next
-  pub old-or-next : (P : ℕ → Type 0) → ((place : ℕ) → place < length history → stepAt history place .accepted ≡ true → P place) → (next .accepted ≡ true → P (length history)) → (place : ℕ) → stepAt (andThen history next) place .accepted ≡ true → P place
+  pub old-or-next : (P : ℕ → Type 0) →
+      ((place : ℕ) → place < length history → stepAt history place .accepted ≡ true → P place) →
+      (next .accepted ≡ true → P (length history)) → (place : ℕ) →
+      stepAt (andThen history next) place .accepted ≡ true → P place
   old-or-next P old new place isAccepted =
       by-cases
       (decLt place (length history))
       (λ inside. old place inside (rw (step-stays history (next ∷ []) place inside) at isAccepted))
       (λ outside.
-      let isLast : place ≡ length history = omega (arith, simp length-append at (accepted-inside (andThen history next) place isAccepted)) in
+      let isLast : place ≡ length history =
+      omega (arith, simp length-append at (accepted-inside (andThen history next) place isAccepted)) in
       rw isLast (new (rw (isLast, step-next history next) at isAccepted)))
 
   -- an old step reaches what it reached
@@ -141,18 +148,23 @@ module _ (history : List Fed) (next : Fed) where
       }
 
   -- what happens before an old step, or is it
-  at-or-before-was : {place target : ℕ} → target < length history → (place ≡ target) ⊎ HappensBefore (andThen history next) place target → (place ≡ target) ⊎ HappensBefore history place target
+  at-or-before-was : {place target : ℕ} → target < length history →
+      (place ≡ target) ⊎ HappensBefore (andThen history next) place target →
+      (place ≡ target) ⊎ HappensBefore history place target
   at-or-before-was inside (inl same) = inl same
   at-or-before-was inside (inr before) = inr (before-was history (next ∷ []) before inside)
 
   -- what an old step reaches it reached, or it is the next step
-  pub reaches-was : {Sort : Fed → Type 0} {place : ℕ} → place < length history → Reaches (andThen history next) Sort place → Reaches history Sort place ⊎ (Sort next × HappensBefore (andThen history next) place (length history))
+  pub reaches-was : {Sort : Fed → Type 0} {place : ℕ} → place < length history →
+      Reaches (andThen history next) Sort place →
+      Reaches history Sort place ⊎ (Sort next × HappensBefore (andThen history next) place (length history))
   reaches-was {Sort} {place} inside reached = by-cases (decLt (reached .target) (length history)) old new
     where
       targetInside : reached .target < length (andThen history next)
       targetInside = accepted-inside (andThen history next) (reached .target) (reached .isAccepted)
 
-      old : reached .target < length history → Reaches history Sort place ⊎ (Sort next × HappensBefore (andThen history next) place (length history))
+      old : reached .target < length history →
+          Reaches history Sort place ⊎ (Sort next × HappensBefore (andThen history next) place (length history))
       old targetOld =
           let stays = step-stays history (next ∷ []) (reached .target) targetOld in
           inl (record {
@@ -162,35 +174,49 @@ module _ (history : List Fed) (next : Fed) where
             isBefore = at-or-before-was targetOld (reached .isBefore);
           })
 
-      new : ¬ (reached .target < length history) → Reaches history Sort place ⊎ (Sort next × HappensBefore (andThen history next) place (length history))
+      new : ¬ (reached .target < length history) →
+          Reaches history Sort place ⊎ (Sort next × HappensBefore (andThen history next) place (length history))
       new targetNew =
           let isLast : reached .target ≡ length history = omega (arith, simp length-append at targetInside) in
-          inr (rw (isLast, step-next history next) at (reached .isSort), ⊎-elim (λ same. absurd (omega arith)) (λ before. rw isLast at before) (reached .isBefore))
+          inr (
+            rw (isLast, step-next history next) at (reached .isSort),
+            ⊎-elim (λ same. absurd (omega arith)) (λ before. rw isLast at before) (reached .isBefore),
+          )
 
   -- the next step reaches only what it is itself
   pub next-reaches : {Sort : Fed → Type 0} → Reaches (andThen history next) Sort (length history) → Sort next
-  next-reaches {Sort} reached = ⊎-elim (λ same. rw (← same, step-next history next) at (reached .isSort)) (λ before. absurd (ahead (before-forward before))) (reached .isBefore)
+  next-reaches {Sort} reached =
+      ⊎-elim (λ same. rw (← same, step-next history next) at (reached .isSort))
+      (λ before. absurd (ahead (before-forward before))) (reached .isBefore)
     where
       ahead : length history < reached .target → ⊥
       ahead forward = omega (arith, simp length-append at (accepted-inside (andThen history next) (reached .target) (reached .isAccepted)))
 
   -- nothing happens before a refused step
   pub refused-last : {place : ℕ} → next .accepted ≡ false → HappensBefore (andThen history next) place (length history) → ⊥
-  refused-last isRefused before = false≢true (sym isRefused ∙ sym (ap (λ (step : Fed). step .accepted) (step-next history next)) ∙ after-accepted before)
+  refused-last isRefused before =
+      false≢true (sym isRefused ∙ sym (ap (λ (step : Fed). step .accepted) (step-next history next)) ∙ after-accepted before)
 
   -- what reaches a step that happens before the next one happens before the next one
-  from-target : {Sort : Fed → Type 0} {place : ℕ} (reached : Reaches history Sort place) → HappensBefore (andThen history next) (reached .target) (length history) → HappensBefore (andThen history next) place (length history)
-  from-target reached last = ⊎-elim (λ same. rw same last) (λ before. through (before-stays history (next ∷ []) before) last) (reached .isBefore)
+  from-target : {Sort : Fed → Type 0} {place : ℕ} (reached : Reaches history Sort place) →
+      HappensBefore (andThen history next) (reached .target) (length history) →
+      HappensBefore (andThen history next) place (length history)
+  from-target reached last =
+      ⊎-elim (λ same. rw same last) (λ before. through (before-stays history (next ∷ []) before) last) (reached .isBefore)
 
   -- the next step comes after what its thread's earlier steps come after
-  pub next-of-thread : {place : ℕ} → next .accepted ≡ true → Reaches history (StepOf (next .thread)) place → HappensBefore (andThen history next) place (length history)
+  pub next-of-thread : {place : ℕ} → next .accepted ≡ true → Reaches history (StepOf (next .thread)) place →
+      HappensBefore (andThen history next) place (length history)
   next-of-thread isAccepted reached =
       let stays = accepted-stays history (next ∷ []) (reached .target) (reached .isAccepted) in
       let last = step-next history next in
-      from-target reached (inThread (accepted-inside history (reached .target) (reached .isAccepted)) (rw stays (reached .isAccepted)) (rw last isAccepted) (rw (stays, last) (reached .isSort)))
+      from-target reached
+      (inThread (accepted-inside history (reached .target) (reached .isAccepted)) (rw stays (reached .isAccepted))
+      (rw last isAccepted) (rw (stays, last) (reached .isSort)))
 
   -- a next ACQUIRE (4) comes after what the lock's earlier RELEASE steps come after
-  pub next-of-lock : {place : ℕ} → next .accepted ≡ true → next .kind ≡ 4 → Reaches history (ReleaseOf (next .place)) place → HappensBefore (andThen history next) place (length history)
+  pub next-of-lock : {place : ℕ} → next .accepted ≡ true → next .kind ≡ 4 →
+      Reaches history (ReleaseOf (next .place)) place → HappensBefore (andThen history next) place (length history)
   next-of-lock isAccepted isAcquire reached =
       let stays = accepted-stays history (next ∷ []) (reached .target) (reached .isAccepted) in
       let last = step-next history next in

@@ -10,6 +10,7 @@ use mathlib.Core.Logic.{_⊎_, inl, inr, ⊎-elim, by-cases}
 use lib.ListN.{length, length-append, List·getD-append, List·getD-eq-default}
 use lib.Seq.{getD-append-seam}
 use lib.Dec.{eqb}
+use Rattle.sizes.specs.Sizes.{threadCount}
 use Rattle.atomicity.specs.History.{Fed, noStep, stepAt}
 use Rattle.atomicity.specs.HappensBefore.{Accepted, HappensBefore, inThread, byLock, through}
 use Rattle.atomicity.proofs.Logged.{Entries, IsReleaseOf, IsAcquireOf, Grows, still-is}
@@ -31,7 +32,8 @@ abbrev pub lastOf : (ℕ → ℕ) → List Fed → ℕ → ℕ
 lastOf given history place = madeBy given history (stepAt history place .thread) (suc place)
 
 -- a thread's last LSN only grows
-pub made-grows : (given : ℕ → ℕ) (history : List Fed) (thread first second : ℕ) → first ≤ second → madeBy given history thread first ≤ madeBy given history thread second
+pub made-grows : (given : ℕ → ℕ) (history : List Fed) (thread first second : ℕ) → first ≤ second →
+    madeBy given history thread first ≤ madeBy given history thread second
 unfolding madeBy
 made-grows given history thread first zero before = let none : first ≡ 0 = omega arith in rw none (omega arith)
 made-grows given history thread first (suc second) before =
@@ -52,43 +54,60 @@ module _ (history : List Fed) (fed : Fed) where
   pub step-new : stepAt (andThen history fed) (length history) ≡ fed
   step-new = getD-append-seam history fed [] noStep
 
-  pub made-before : (given : ℕ → ℕ) (thread count : ℕ) → count ≤ length history → madeBy given (andThen history fed) thread count ≡ madeBy given history thread count
+  pub made-before : (given : ℕ → ℕ) (thread count : ℕ) → count ≤ length history →
+      madeBy given (andThen history fed) thread count ≡ madeBy given history thread count
   unfolding madeBy
   made-before given thread zero within = refl
   made-before given thread (suc count) within =
       rw (step-before {place = count} (omega arith), made-before given thread count (omega arith))
 
-  pub made-new : (given : ℕ → ℕ) (thread : ℕ) → madeBy given (andThen history fed) thread (suc (length history)) ≡ cond (makes fed thread) 1 0 + madeBy given history thread (length history)
+  pub made-new : (given : ℕ → ℕ) (thread : ℕ) →
+      madeBy given (andThen history fed) thread (suc (length history)) ≡
+      cond (makes fed thread) 1 0 + madeBy given history thread (length history)
   unfolding madeBy
   made-new given thread = rw (step-new, made-before given thread (length history) (omega arith))
 
-  pub last-before : (given : ℕ → ℕ) {place : ℕ} → place < length history → lastOf given (andThen history fed) place ≡ lastOf given history place
+  pub last-before : (given : ℕ → ℕ) {place : ℕ} → place < length history →
+      lastOf given (andThen history fed) place ≡ lastOf given history place
   last-before given {place} before =
-      ap (λ (step : Fed). madeBy given (andThen history fed) (step .thread) (suc place)) (step-before before) ∙ made-before given (stepAt history place .thread) (suc place) before
+      ap (λ (step : Fed). madeBy given (andThen history fed) (step .thread) (suc place)) (step-before before) ∙
+      made-before given (stepAt history place .thread) (suc place) before
 
 -- so it is, where entries grew
-pub last-was : {old new : Entries} (history : List Fed) (fed : Fed) → Grows old new (length history) → {place : ℕ} → place < length history → lastOf (new .before) (andThen history fed) place ≡ lastOf (old .before) history place
+pub last-was : {old new : Entries} (history : List Fed) (fed : Fed) → Grows old new (length history) → {place : ℕ} →
+    place < length history → lastOf (new .before) (andThen history fed) place ≡ lastOf (old .before) history place
 last-was {old} history fed grows {place} before =
     ap (λ (given : ℕ → ℕ). lastOf given (andThen history fed) place) (grows .beforeSame) ∙ last-before history fed (old .before) before
 
 -- the history's steps and the entries
 pub record PlacesHold (history : List Fed) (entries : Entries) (counts : ℕ → ℕ) : Type 0 where
-  pub threadIs : (place : ℕ) → stepAt history place .accepted ≡ true → stepAt history place .thread < 4
-  pub nextIs : (thread : ℕ) → thread < 4 → entries .next thread ≡ suc (madeBy (entries .before) history thread (length history))
+  pub threadIs : (place : ℕ) → stepAt history place .accepted ≡ true → stepAt history place .thread < threadCount
+  pub nextIs : (thread : ℕ) → thread < threadCount → entries .next thread ≡ suc (madeBy (entries .before) history thread (length history))
   -- a RELEASE step stands at its RELEASE entry, of a count that the lock has passed
-  pub releaseAt : {place : ℕ} → Accepted history place 6 → (count : ℕ) × IsReleaseOf entries (stepAt history place .thread) (lastOf (entries .before) history place) (stepAt history place .place) count × (count < counts (stepAt history place .place))
+  pub releaseAt : {place : ℕ} → Accepted history place 6 →
+      (count : ℕ) ×
+      IsReleaseOf entries (stepAt history place .thread) (lastOf (entries .before) history place) (stepAt history place .place) count ×
+      (count < counts (stepAt history place .place))
   -- a RELEASE entry of a count that the lock has passed has its RELEASE step
   pub releasedBy : {thread number lock count : ℕ} → IsReleaseOf entries thread number lock count → count < counts lock
       → (place : ℕ) × Accepted history place 6 × (stepAt history place .thread ≡ thread) ×
       (lastOf (entries .before) history place ≡ number)
   -- each RELEASE step leads to each later ACQUIRE step of the lock
-  pub lockLeads : {first second : ℕ} → first < second → Accepted history first 6 → Accepted history second 4 → stepAt history first .place ≡ stepAt history second .place → Leads entries (stepAt history first .thread) (lastOf (entries .before) history first) (stepAt history second .thread) (lastOf (entries .before) history second)
+  pub lockLeads : {first second : ℕ} → first < second → Accepted history first 6 → Accepted history second 4 →
+      stepAt history first .place ≡ stepAt history second .place →
+      Leads entries (stepAt history first .thread) (lastOf (entries .before) history first)
+      (stepAt history second .thread) (lastOf (entries .before) history second)
 
 -- what happens before leads
-pub before-leads : {history : List Fed} {entries : Entries} {counts : ℕ → ℕ} {first second : ℕ} → PlacesHold history entries counts → HappensBefore history first second → Leads entries (stepAt history first .thread) (lastOf (entries .before) history first) (stepAt history second .thread) (lastOf (entries .before) history second)
+pub before-leads : {history : List Fed} {entries : Entries} {counts : ℕ → ℕ} {first second : ℕ} →
+    PlacesHold history entries counts → HappensBefore history first second →
+    Leads entries (stepAt history first .thread) (lastOf (entries .before) history first)
+    (stepAt history second .thread) (lastOf (entries .before) history second)
 before-leads {history} {entries} {counts} {first} {second} holds (inThread before isFirst isSecond same) =
     subst
-    (λ (thread : ℕ). Leads entries (stepAt history first .thread) (lastOf (entries .before) history first) thread (madeBy (entries .before) history thread (suc second)))
+    (λ (thread : ℕ).
+    Leads entries (stepAt history first .thread) (lastOf (entries .before) history first) thread
+    (madeBy (entries .before) history thread (suc second)))
     same
     (Order.inThread (made-grows (entries .before) history (stepAt history first .thread) (suc first) (suc second) (omega arith)))
 before-leads holds (byLock before isFirst isSecond same) = holds .lockLeads before isFirst isSecond same
@@ -104,15 +123,21 @@ pub record TakesRelease (history : List Fed) (fed : Fed) (given : ℕ → ℕ) (
 -- what a step adds
 pub record NewPlace (history : List Fed) (fed : Fed) (old new : Entries) (counts after : ℕ → ℕ) : Type 0 where
   pub grows : Grows old new (length history)
-  pub thread : fed .accepted ≡ true → fed .thread < 4
-  pub nextNew : (thread : ℕ) → thread < 4 → new .next thread ≡ cond (makes fed thread) 1 0 + old .next thread
+  pub thread : fed .accepted ≡ true → fed .thread < threadCount
+  pub nextNew : (thread : ℕ) → thread < threadCount → new .next thread ≡ cond (makes fed thread) 1 0 + old .next thread
   pub countGrows : (lock : ℕ) → counts lock ≤ after lock
-  pub newRelease : fed .accepted ≡ true → fed .kind ≡ 6 → (count : ℕ) × IsReleaseOf new (fed .thread) (madeBy (new .before) (andThen history fed) (fed .thread) (suc (length history))) (fed .place) count × (count < after (fed .place))
+  pub newRelease : fed .accepted ≡ true → fed .kind ≡ 6 →
+      (count : ℕ) ×
+      IsReleaseOf new (fed .thread) (madeBy (new .before) (andThen history fed) (fed .thread) (suc (length history))) (fed .place) count ×
+      (count < after (fed .place))
   pub newTaken : {thread number lock count : ℕ} → IsReleaseOf new thread number lock count → count < after lock
       → (IsReleaseOf old thread number lock count × (count < counts lock)) ⊎ TakesRelease history fed (new .before) thread number
-  pub newAcquire : fed .accepted ≡ true → fed .kind ≡ 4 → IsAcquireOf new (fed .thread) (madeBy (new .before) (andThen history fed) (fed .thread) (suc (length history))) (fed .place) (counts (fed .place))
+  pub newAcquire : fed .accepted ≡ true → fed .kind ≡ 4 →
+      IsAcquireOf new (fed .thread) (madeBy (new .before) (andThen history fed) (fed .thread) (suc (length history)))
+      (fed .place) (counts (fed .place))
 
-module _ {history : List Fed} {fed : Fed} {old new : Entries} {counts after : ℕ → ℕ} (step : NewPlace history fed old new counts after) (holds : PlacesHold history old counts) where
+module _ {history : List Fed} {fed : Fed} {old new : Entries} {counts after : ℕ → ℕ}
+    (step : NewPlace history fed old new counts after) (holds : PlacesHold history old counts) where
   -- an accepted step stands in the history, or is the new one
   place-cases : (place : ℕ) → stepAt (andThen history fed) place .accepted ≡ true → (place < length history) ⊎ (place ≡ length history)
   place-cases place isAccepted =
@@ -125,7 +150,8 @@ module _ {history : List Fed} {fed : Fed} {old new : Entries} {counts after : �
       (λ same. inr same)
       (λ differs.
       let beyond : length (andThen history fed) ≤ place = rw (length-then history fed) (omega (arith, notBefore, differs)) in
-      let refusedThere : stepAt (andThen history fed) place .accepted ≡ false = ap (λ (step : Fed). step .accepted) (List·getD-eq-default (andThen history fed) noStep beyond) in
+      let refusedThere : stepAt (andThen history fed) place .accepted ≡ false =
+      ap (λ (step : Fed). step .accepted) (List·getD-eq-default (andThen history fed) noStep beyond) in
       let never : _≡_ {A = ℕ} 0 1 = cc in
       absurd (omega arith)))
 
@@ -136,13 +162,20 @@ module _ {history : List Fed} {fed : Fed} {old new : Entries} {counts after : �
     isKind = sym (ap (λ (step : Fed). step .kind) (step-before history fed before)) ∙ isAccepted .isKind;
   }
 
-  new-accepted : {place kind : ℕ} → place ≡ length history → Accepted (andThen history fed) place kind → (fed .accepted ≡ true) × (fed .kind ≡ kind)
+  new-accepted : {place kind : ℕ} → place ≡ length history → Accepted (andThen history fed) place kind →
+      (fed .accepted ≡ true) × (fed .kind ≡ kind)
   new-accepted {place} {kind} same isAccepted =
-      let here : stepAt (andThen history fed) place ≡ fed = ap (stepAt (andThen history fed)) same ∙ step-new history fed in
-      (sym (ap (λ (step : Fed). step .accepted) here) ∙ isAccepted .isAccepted, sym (ap (λ (step : Fed). step .kind) here) ∙ isAccepted .isKind)
+      let here : stepAt (andThen history fed) place ≡ fed = ap (stepAt (andThen history fed)) same ∙ step-new history fed in (
+        sym (ap (λ (step : Fed). step .accepted) here) ∙ isAccepted .isAccepted,
+        sym (ap (λ (step : Fed). step .kind) here) ∙ isAccepted .isKind,
+      )
 
   -- a RELEASE step of the history, read in the longer one
-  release-before : {place : ℕ} (before : place < length history) → Accepted (andThen history fed) place 6 → (count : ℕ) × IsReleaseOf new (stepAt (andThen history fed) place .thread) (lastOf (new .before) (andThen history fed) place) (stepAt (andThen history fed) place .place) count × (count < counts (stepAt (andThen history fed) place .place))
+  release-before : {place : ℕ} (before : place < length history) → Accepted (andThen history fed) place 6 →
+      (count : ℕ) ×
+      IsReleaseOf new (stepAt (andThen history fed) place .thread) (lastOf (new .before) (andThen history fed) place)
+      (stepAt (andThen history fed) place .place) count ×
+      (count < counts (stepAt (andThen history fed) place .place))
   release-before {place} before isAccepted =
       let found = holds .releaseAt (accepted-before before isAccepted) in
       rw (last-was history fed (step .grows) before, step-before history fed before) (found .0, still-is (step .grows) (found .1), found .2)
@@ -151,7 +184,8 @@ module _ {history : List Fed} {fed : Fed} {old new : Entries} {counts after : �
   places-step = record {
     threadIs = λ place isAccepted.
         ⊎-elim
-        (λ before. rw (step-before history fed {place = place} before) (holds .threadIs place (sym (ap (λ (step : Fed). step .accepted) (step-before history fed before)) ∙ isAccepted)))
+        (λ before. rw (step-before history fed {place = place} before)
+        (holds .threadIs place (sym (ap (λ (step : Fed). step .accepted) (step-before history fed before)) ∙ isAccepted)))
         (λ same.
         let here : stepAt (andThen history fed) place ≡ fed = ap (stepAt (andThen history fed)) same ∙ step-new history fed in
         rw here (step .thread (sym (ap (λ (step : Fed). step .accepted) here) ∙ isAccepted)))
@@ -195,7 +229,12 @@ module _ {history : List Fed} {fed : Fed} {old new : Entries} {counts after : �
         ⊎-elim
         (λ (secondBefore : second < length history).
         let firstBefore : first < length history = omega arith in
-        rw (last-was history fed (step .grows) firstBefore, last-was history fed (step .grows) secondBefore, step-before history fed firstBefore, step-before history fed secondBefore)
+        rw (
+          last-was history fed (step .grows) firstBefore,
+          last-was history fed (step .grows) secondBefore,
+          step-before history fed firstBefore,
+          step-before history fed secondBefore,
+        )
         (leads-grow (step .grows)
         (holds .lockLeads
         before
@@ -207,9 +246,15 @@ module _ {history : List Fed} {fed : Fed} {old new : Entries} {counts after : �
         let firstBefore : first < length history = omega arith in
         let found = release-before firstBefore isRelease in
         let here : stepAt (andThen history fed) second ≡ fed = ap (stepAt (andThen history fed)) same ∙ step-new history fed in
-        let acquire : IsAcquireOf new (stepAt (andThen history fed) second .thread) (lastOf (new .before) (andThen history fed) second) (stepAt (andThen history fed) second .place) (counts (stepAt (andThen history fed) second .place)) =
+        let acquire : IsAcquireOf new (stepAt (andThen history fed) second .thread)
+        (lastOf (new .before) (andThen history fed) second) (stepAt (andThen history fed) second .place)
+        (counts (stepAt (andThen history fed) second .place)) =
         rw (same, step-new history fed) (step .newAcquire (isNew .0) (isNew .1)) in
-        let release : IsReleaseOf new (stepAt (andThen history fed) first .thread) (lastOf (new .before) (andThen history fed) first) (stepAt (andThen history fed) second .place) (found .0) = subst (λ (lock : ℕ). IsReleaseOf new (stepAt (andThen history fed) first .thread) (lastOf (new .before) (andThen history fed) first) lock (found .0)) samePlace (found .1) in
+        let release : IsReleaseOf new (stepAt (andThen history fed) first .thread)
+        (lastOf (new .before) (andThen history fed) first) (stepAt (andThen history fed) second .place) (found .0) =
+        subst (λ (lock : ℕ).
+        IsReleaseOf new (stepAt (andThen history fed) first .thread) (lastOf (new .before) (andThen history fed) first) lock (found .0))
+        samePlace (found .1) in
         Order.byLock release acquire (rw samePlace at (found .2)))
         (place-cases second (isAcquire .isAccepted));
   }

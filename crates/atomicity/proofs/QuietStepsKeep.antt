@@ -9,6 +9,7 @@ use mathlib.Core.Logic.{_⊎_, inl, inr, ⊎-elim}
 use lib.ListN.{length, set}
 use lib.Seq.{getD-set-same, getD-set-other}
 use lib.Dec.{eqb}
+use Rattle.sizes.specs.Sizes.{threadCount}
 use Rattle.answer.proofs.RefusalLaws.{AllFail}
 use Rattle.cache.specs.Cache.{cachedAt, persistedAt, lineOf, isPending, storeOf, flushOf, fenceOf, evictOf}
 use Rattle.cache.specs.declared.Cache.{Cache}
@@ -34,7 +35,8 @@ use Rattle.atomicity.proofs.Locks.{SameLocks}
 use Rattle.atomicity.proofs.Cells.{CellsHold, NoBoundaryAfter, made-equal, unchanged, cells-keep, restored, StoresCell, cells-store}
 use Rattle.atomicity.proofs.HistoryRuns.{tookStep}
 use Rattle.atomicity.proofs.LogViews.{setAt, setAt-here, setAt-other, logAt, by-log, keep-view, same-view}
-use Rattle.atomicity.proofs.MachineInvariant.{Beginning, Ghost, World, Quiet, entriesOf, locksOf, contentsOf, world-quiet}
+use Rattle.atomicity.proofs.MachineInvariant.{Beginning, Ghost, MachineInvariant, Quiet, entriesOf, locksOf, contentsOf}
+use Rattle.atomicity.proofs.MachineInvariant.{machine-quiet}
 use Rattle.atomicity.proofs.Ordered.{andThen}
 
 -- a refused step is quiet
@@ -47,7 +49,9 @@ refused-quiet fed isRefused = record {
 }
 
 -- an accepted step of a kind that makes no entry and is no RELEASE
-quiet-step : (kind thread place value : ℕ) → (eqb kind 2 || (eqb kind 4 || eqb kind 5)) ≡ false → (kind ≡ 6 → ⊥) → (kind ≡ 4 → ⊥) → thread < 4 → Quiet (record { kind = kind; thread = thread; place = place; value = value; accepted = true })
+quiet-step : (kind thread place value : ℕ) → (eqb kind 2 || (eqb kind 4 || eqb kind 5)) ≡ false → (kind ≡ 6 → ⊥) →
+    (kind ≡ 4 → ⊥) → thread < threadCount →
+    Quiet (record { kind = kind; thread = thread; place = place; value = value; accepted = true })
 quiet-step kind thread place value noEntry noRelease noAcquire inThread = record {
   thread = λ isAccepted. inThread;
   makesNone = λ other. rw noEntry (and-false (eqb thread other));
@@ -61,33 +65,47 @@ pub record EntriesStay (start : Beginning) (machine after : Machine) (ghost : Gh
   pub headSame : (thread : ℕ) → logAt (after .logs) thread .head .0 ≡ logAt (machine .logs) thread .head .0
 
 -- a change of a log that makes no entry and moves no head
-pub log-stays : (start : Beginning) (machine after : Machine) (ghost : Ghost) (now thread : ℕ) (log : Log) → after .logs ≡ set (machine .logs) thread log → thread < length (machine .logs) → log .tail .next .0 ≡ logAt (machine .logs) thread .tail .next .0 → log .head .0 ≡ logAt (machine .logs) thread .head .0 → logAt (machine .logs) thread .tail .durable .0 ≤ log .tail .durable .0 → EntriesStay start machine after ghost now
+pub log-stays : (start : Beginning) (machine after : Machine) (ghost : Ghost) (now thread : ℕ) (log : Log) →
+    after .logs ≡ set (machine .logs) thread log → thread < length (machine .logs) →
+    log .tail .next .0 ≡ logAt (machine .logs) thread .tail .next .0 →
+    log .head .0 ≡ logAt (machine .logs) thread .head .0 →
+    logAt (machine .logs) thread .tail .durable .0 ≤ log .tail .durable .0 → EntriesStay start machine after ghost now
 log-stays start machine after ghost now thread log isSet inLogs nextSame headIs durableGrows = record {
-  keeps = rw isSet (keep-view (start .before) (machine .logs) (ghost .event) (ghost .time) now thread log inLogs nextSame (omega (arith, headIs)) durableGrows);
-  headSame = rw isSet (by-log (λ other log. log .head .0 ≡ logAt (machine .logs) other .head .0) (machine .logs) thread log inLogs headIs (λ other differs. refl));
+  keeps =
+      rw isSet (keep-view (start .before) (machine .logs) (ghost .event) (ghost .time) now thread log inLogs nextSame
+      (omega (arith, headIs)) durableGrows);
+  headSame =
+      rw isSet (by-log (λ other log. log .head .0 ≡ logAt (machine .logs) other .head .0) (machine .logs) thread log
+      inLogs headIs (λ other differs. refl));
 }
 
 -- the logs are as they were
-pub logs-stay : (start : Beginning) (machine after : Machine) (ghost : Ghost) (now : ℕ) → after .logs ≡ machine .logs → EntriesStay start machine after ghost now
+pub logs-stay : (start : Beginning) (machine after : Machine) (ghost : Ghost) (now : ℕ) → after .logs ≡ machine .logs →
+    EntriesStay start machine after ghost now
 logs-stay start machine after ghost now same = record {
   keeps = rw same (same-view (entriesOf start machine ghost) now);
   headSame = λ thread. rw same;
 }
 
-module _ {start : Beginning} {machine : Machine} {history : List Fed} {ghost : Ghost} (world : World start machine history ghost) where
+module _ {start : Beginning} {machine : Machine} {history : List Fed} {ghost : Ghost}
+    (machineHolds : MachineInvariant start machine history ghost) where
   same-locks : SameLocks (locksOf machine) (locksOf machine)
   same-locks = record { releasingSame = λ thread. refl; holderSame = λ lock. refl; countSame = λ lock. refl }
 
   -- a step that leaves the logs and the locks alone: what is left to show is of the cache and the cells
-  world-aside : (cache : Cache) (accesses : Accesses) (fed : Fed) (next : Ghost) → next .event ≡ ghost .event → next .time ≡ ghost .time → Quiet fed → Sized (withAccesses (withCache machine cache) accesses) → CacheLaws.Sized cache → CacheLaws.DurableKept cache → CellsHold (entriesOf start machine ghost) (contentsOf start cache) (next .versions) → World start (withAccesses (withCache machine cache) accesses) (andThen history fed) next
-  world-aside cache accesses fed next sameEvent sameTime quiet sized cacheSized durableKept cells =
-      world-quiet
+  machine-aside : (cache : Cache) (accesses : Accesses) (fed : Fed) (next : Ghost) → next .event ≡ ghost .event →
+      next .time ≡ ghost .time → Quiet fed → Sized (withAccesses (withCache machine cache) accesses) →
+      CacheLaws.Sized cache → CacheLaws.DurableKept cache →
+      CellsHold (entriesOf start machine ghost) (contentsOf start cache) (next .versions) →
+      MachineInvariant start (withAccesses (withCache machine cache) accesses) (andThen history fed) next
+  machine-aside cache accesses fed next sameEvent sameTime quiet sized cacheSized durableKept cells =
+      machine-quiet
       (record {
         quiet = quiet;
         sameEvent = sameEvent;
         sameTime = sameTime;
         sized = sized;
-        logs = world .logs;
+        logs = machineHolds .logs;
         cacheSized = cacheSized;
         durableKept = durableKept;
         keeps = same-view (entriesOf start machine ghost) (length history);
@@ -96,30 +114,39 @@ module _ {start : Beginning} {machine : Machine} {history : List Fed} {ghost : G
         prunedSame = λ lock. refl;
         cells = cells;
       })
-      world
+      machineHolds
 
-  pub world-refused : (fed : Fed) → fed .accepted ≡ false → World start machine (andThen history fed) ghost
-  world-refused fed isRefused = world-aside (machine .cache) (machine .accesses) fed ghost refl refl (refused-quiet fed isRefused) (world .sized) (world .cacheSized) (world .durableKept) (world .cells)
+  pub machine-refused : (fed : Fed) → fed .accepted ≡ false → MachineInvariant start machine (andThen history fed) ghost
+  machine-refused fed isRefused =
+      machine-aside (machine .cache) (machine .accesses) fed ghost refl refl (refused-quiet fed isRefused)
+      (machineHolds .sized) (machineHolds .cacheSized) (machineHolds .durableKept) (machineHolds .cells)
 
   module _ (thread place value : ℕ) where
-    pub world-load : AllFail (testsOf machine LOAD thread place value) → World start (effect machine LOAD thread place value .machine) (andThen history (tookStep LOAD thread place value)) ghost
+    pub machine-load : AllFail (testsOf machine LOAD thread place value) →
+        MachineInvariant start (effect machine LOAD thread place value .machine) (andThen history (tookStep LOAD thread place value)) ghost
     unfolding effect loadEffect loadedOf
-    world-load fails =
-        world-aside
+    machine-load fails =
+        machine-aside
         (machine .cache)
         _
         (tookStep LOAD thread place value)
         ghost
         refl
         refl
-        (quiet-step 1 thread place value refl (λ isKind. omega arith) (λ isKind. omega arith) (load-asked machine thread place value fails .inThread))
-        (effect-sized machine (world .sized) LOAD thread place value fails)
-        (world .cacheSized)
-        (world .durableKept)
-        (world .cells)
+        (quiet-step 1 thread place value refl (λ isKind. omega arith) (λ isKind. omega arith)
+        (load-asked machine thread place value fails .inThread))
+        (effect-sized machine (machineHolds .sized) LOAD thread place value fails)
+        (machineHolds .cacheSized)
+        (machineHolds .durableKept)
+        (machineHolds .cells)
 
     -- the cells after a change of the cache that stores nothing
-    cache-cells : (cache : Cache) → ((cell : ℕ) → cachedAt cache cell ≡ cachedAt (machine .cache) cell) → ((cell : ℕ) → (persistedAt cache cell ≡ cachedAt (machine .cache) cell) ⊎ (persistedAt cache cell ≡ persistedAt (machine .cache) cell)) → (after : Machine) → Keeps (entriesOf start machine ghost) (entriesOf start after ghost) (length history) → ((other : ℕ) → logAt (after .logs) other .head .0 ≡ logAt (machine .logs) other .head .0) → CellsHold (entriesOf start after ghost) (contentsOf start cache) (ghost .versions)
+    cache-cells : (cache : Cache) → ((cell : ℕ) → cachedAt cache cell ≡ cachedAt (machine .cache) cell) →
+        ((cell : ℕ) →
+        (persistedAt cache cell ≡ cachedAt (machine .cache) cell) ⊎ (persistedAt cache cell ≡ persistedAt (machine .cache) cell)) →
+        (after : Machine) → Keeps (entriesOf start machine ghost) (entriesOf start after ghost) (length history) →
+        ((other : ℕ) → logAt (after .logs) other .head .0 ≡ logAt (machine .logs) other .head .0) →
+        CellsHold (entriesOf start after ghost) (contentsOf start cache) (ghost .versions)
     cache-cells cache cached persisted after keeps heads =
         cells-keep
         keeps
@@ -130,70 +157,102 @@ module _ {start : Beginning} {machine : Machine} {history : List Fed} {ghost : G
         (λ equal. made-equal equal)
         (λ same. unchanged same (λ other number isIn live gone. let head = heads other in omega arith))
         (persisted cell))
-        (world .cells)
+        (machineHolds .cells)
 
-    pub world-flush : AllFail (testsOf machine FLUSH thread place value) → World start (effect machine FLUSH thread place value .machine) (andThen history (tookStep FLUSH thread place value)) ghost
+    pub machine-flush : AllFail (testsOf machine FLUSH thread place value) →
+        MachineInvariant start (effect machine FLUSH thread place value .machine)
+        (andThen history (tookStep FLUSH thread place value)) ghost
     unfolding effect flushEffect
-    world-flush fails =
-        world-aside
+    machine-flush fails =
+        machine-aside
         (flushOf (machine .cache) thread place)
         (machine .accesses)
         (tookStep FLUSH thread place value)
         ghost
         refl
         refl
-        (quiet-step 7 thread place value refl (λ isKind. omega arith) (λ isKind. omega arith) (flush-asked machine thread place value fails .inThread))
-        (effect-sized machine (world .sized) FLUSH thread place value fails)
-        (CacheLaws.flushOf-sized (machine .cache) (world .cacheSized) thread place)
-        (CacheLaws.flushOf-kept (machine .cache) (world .cacheSized) thread place (world .durableKept))
-        (cache-cells (flushOf (machine .cache) thread place) (CacheLaws.flushOf-cached (machine .cache) (world .cacheSized) thread place) (λ cell. inr (CacheLaws.flushOf-persisted (machine .cache) (world .cacheSized) thread place cell)) machine (same-view (entriesOf start machine ghost) (length history)) (λ other. refl))
+        (quiet-step 7 thread place value refl (λ isKind. omega arith) (λ isKind. omega arith)
+        (flush-asked machine thread place value fails .inThread))
+        (effect-sized machine (machineHolds .sized) FLUSH thread place value fails)
+        (CacheLaws.flushOf-sized (machine .cache) (machineHolds .cacheSized) thread place)
+        (CacheLaws.flushOf-kept (machine .cache) (machineHolds .cacheSized) thread place (machineHolds .durableKept))
+        (cache-cells (flushOf (machine .cache) thread place)
+        (CacheLaws.flushOf-cached (machine .cache) (machineHolds .cacheSized) thread place)
+        (λ cell. inr (CacheLaws.flushOf-persisted (machine .cache) (machineHolds .cacheSized) thread place cell))
+        machine (same-view (entriesOf start machine ghost) (length history)) (λ other. refl))
 
     -- a test decides whether a cell's persisted content becomes its cached one
-    kept-or-same : (test : Bool) (cached persisted : ℕ) {found : ℕ} → found ≡ cond test cached persisted → (found ≡ cached) ⊎ (found ≡ persisted)
+    kept-or-same : (test : Bool) (cached persisted : ℕ) {found : ℕ} → found ≡ cond test cached persisted →
+        (found ≡ cached) ⊎ (found ≡ persisted)
     kept-or-same true cached persisted is = inl is
     kept-or-same false cached persisted is = inr is
 
-    pub world-evict : AllFail (testsOf machine EVICT thread place value) → World start (effect machine EVICT thread place value .machine) (andThen history (tookStep EVICT thread place value)) ghost
+    pub machine-evict : AllFail (testsOf machine EVICT thread place value) →
+        MachineInvariant start (effect machine EVICT thread place value .machine)
+        (andThen history (tookStep EVICT thread place value)) ghost
     unfolding effect evictEffect
-    world-evict fails =
-        world-aside
+    machine-evict fails =
+        machine-aside
         (evictOf (machine .cache) place)
         (machine .accesses)
         (tookStep EVICT thread place value)
         ghost
         refl
         refl
-        (quiet-step 11 thread place value refl (λ isKind. omega arith) (λ isKind. omega arith) (evict-asked machine thread place value fails .0))
-        (effect-sized machine (world .sized) EVICT thread place value fails)
-        (CacheLaws.evictOf-sized (machine .cache) (world .cacheSized) place)
-        (CacheLaws.evictOf-kept (machine .cache) (world .cacheSized) place (world .durableKept))
-        (cache-cells (evictOf (machine .cache) place) (CacheLaws.evictOf-cached (machine .cache) (world .cacheSized) place) (λ cell. kept-or-same (eqb (lineOf cell) place) (cachedAt (machine .cache) cell) (persistedAt (machine .cache) cell) (CacheLaws.evictOf-persisted (machine .cache) (world .cacheSized) place cell)) machine (same-view (entriesOf start machine ghost) (length history)) (λ other. refl))
+        (quiet-step 11 thread place value refl (λ isKind. omega arith) (λ isKind. omega arith)
+        (evict-asked machine thread place value fails .0))
+        (effect-sized machine (machineHolds .sized) EVICT thread place value fails)
+        (CacheLaws.evictOf-sized (machine .cache) (machineHolds .cacheSized) place)
+        (CacheLaws.evictOf-kept (machine .cache) (machineHolds .cacheSized) place (machineHolds .durableKept))
+        (cache-cells (evictOf (machine .cache) place)
+        (CacheLaws.evictOf-cached (machine .cache) (machineHolds .cacheSized) place)
+        (λ cell. kept-or-same (eqb (lineOf cell) place) (cachedAt (machine .cache) cell)
+        (persistedAt (machine .cache) cell)
+        (CacheLaws.evictOf-persisted (machine .cache) (machineHolds .cacheSized) place cell))
+        machine (same-view (entriesOf start machine ghost) (length history)) (λ other. refl))
 
     -- a change of the thread's log that makes no entry, moves no head and leaves the lock being released
-    module _ (log : Log) (inRange : thread < 4) (holds : UndoHolds log (ghost .event thread)) (nextSame : log .tail .next .0 ≡ logAt (machine .logs) thread .tail .next .0) (headIs : log .head .0 ≡ logAt (machine .logs) thread .head .0) (durableGrows : logAt (machine .logs) thread .tail .durable .0 ≤ log .tail .durable .0) (releasingIs : log .tail .releasing ≡ logAt (machine .logs) thread .tail .releasing) where
+    module _ (log : Log) (inRange : thread < threadCount) (holds : UndoHolds log (ghost .event thread))
+        (nextSame : log .tail .next .0 ≡ logAt (machine .logs) thread .tail .next .0)
+        (headIs : log .head .0 ≡ logAt (machine .logs) thread .head .0)
+        (durableGrows : logAt (machine .logs) thread .tail .durable .0 ≤ log .tail .durable .0)
+        (releasingIs : log .tail .releasing ≡ logAt (machine .logs) thread .tail .releasing) where
       inLogs : thread < length (machine .logs)
-      inLogs = rw (world .sized .logs) inRange
+      inLogs = rw (machineHolds .sized .logs) inRange
 
-      logs-then : (other : ℕ) → other < 4 → UndoHolds (logAt (set (machine .logs) thread log) other) (ghost .event other)
-      logs-then = by-log (λ other log. other < 4 → UndoHolds log (ghost .event other)) (machine .logs) thread log inLogs (λ _. holds) (λ other differs. world .logs other)
+      logs-then : (other : ℕ) → other < threadCount → UndoHolds (logAt (set (machine .logs) thread log) other) (ghost .event other)
+      logs-then =
+          by-log (λ other log. other < threadCount → UndoHolds log (ghost .event other)) (machine .logs) thread log
+          inLogs (λ _. holds) (λ other differs. machineHolds .logs other)
 
       keeps-then : Keeps (entriesOf start machine ghost) (entriesOf start (withLog machine thread log) ghost) (length history)
-      keeps-then = keep-view (start .before) (machine .logs) (ghost .event) (ghost .time) (length history) thread log inLogs nextSame (omega (arith, headIs)) durableGrows
+      keeps-then =
+          keep-view (start .before) (machine .logs) (ghost .event) (ghost .time) (length history) thread log inLogs
+          nextSame (omega (arith, headIs)) durableGrows
 
       heads-then : (other : ℕ) → logAt (set (machine .logs) thread log) other .head .0 ≡ logAt (machine .logs) other .head .0
-      heads-then = by-log (λ other log. log .head .0 ≡ logAt (machine .logs) other .head .0) (machine .logs) thread log inLogs headIs (λ other differs. refl)
+      heads-then =
+          by-log (λ other log. log .head .0 ≡ logAt (machine .logs) other .head .0) (machine .logs) thread log inLogs
+          headIs (λ other differs. refl)
 
       locks-then : SameLocks (locksOf machine) (locksOf (withLog machine thread log))
       locks-then = record {
-        releasingSame = by-log (λ other log. log .tail .releasing ≡ logAt (machine .logs) other .tail .releasing) (machine .logs) thread log inLogs releasingIs (λ other differs. refl);
+        releasingSame =
+            by-log (λ other log. log .tail .releasing ≡ logAt (machine .logs) other .tail .releasing) (machine .logs)
+            thread log inLogs releasingIs (λ other differs. refl);
         holderSame = λ lock. refl;
         countSame = λ lock. refl;
       }
 
       -- the step with this log and this cache
-      quiet-log : (cache : Cache) (fed : Fed) → Quiet fed → Sized (withLog (withCache machine cache) thread log) → CacheLaws.Sized cache → CacheLaws.DurableKept cache → ((cell : ℕ) → cachedAt cache cell ≡ cachedAt (machine .cache) cell) → ((cell : ℕ) → (persistedAt cache cell ≡ cachedAt (machine .cache) cell) ⊎ (persistedAt cache cell ≡ persistedAt (machine .cache) cell)) → World start (withLog (withCache machine cache) thread log) (andThen history fed) ghost
+      quiet-log : (cache : Cache) (fed : Fed) → Quiet fed → Sized (withLog (withCache machine cache) thread log) →
+          CacheLaws.Sized cache → CacheLaws.DurableKept cache →
+          ((cell : ℕ) → cachedAt cache cell ≡ cachedAt (machine .cache) cell) →
+          ((cell : ℕ) →
+          (persistedAt cache cell ≡ cachedAt (machine .cache) cell) ⊎ (persistedAt cache cell ≡ persistedAt (machine .cache) cell)) →
+          MachineInvariant start (withLog (withCache machine cache) thread log) (andThen history fed) ghost
       quiet-log cache fed quiet sized cacheSized durableKept cached persisted =
-          world-quiet
+          machine-quiet
           (record {
             quiet = quiet;
             sameEvent = refl;
@@ -208,17 +267,19 @@ module _ {start : Beginning} {machine : Machine} {history : List Fed} {ghost : G
             prunedSame = λ lock. refl;
             cells = cache-cells cache cached persisted (withLog machine thread log) keeps-then heads-then;
           })
-          world
+          machineHolds
 
-    pub world-flush-log : AllFail (testsOf machine FLUSHLOG thread place value) → World start (effect machine FLUSHLOG thread place value .machine) (andThen history (tookStep FLUSHLOG thread place value)) ghost
+    pub machine-flush-log : AllFail (testsOf machine FLUSHLOG thread place value) →
+        MachineInvariant start (effect machine FLUSHLOG thread place value .machine)
+        (andThen history (tookStep FLUSHLOG thread place value)) ghost
     unfolding effect flushLogEffect flushLogOf flushedTail
-    world-flush-log fails =
+    machine-flush-log fails =
         let inRange = flush-log-asked machine thread place value fails in
         let log = logAt (machine .logs) thread in
         quiet-log
         (flushLogOf log)
         inRange
-        (flush-holds log (ghost .event thread) (world .logs thread inRange))
+        (flush-holds log (ghost .event thread) (machineHolds .logs thread inRange))
         refl
         refl
         (omega arith)
@@ -226,18 +287,20 @@ module _ {start : Beginning} {machine : Machine} {history : List Fed} {ghost : G
         (machine .cache)
         (tookStep FLUSHLOG thread place value)
         (quiet-step 8 thread place value refl (λ isKind. omega arith) (λ isKind. omega arith) inRange)
-        (effect-sized machine (world .sized) FLUSHLOG thread place value fails)
-        (world .cacheSized)
-        (world .durableKept)
+        (effect-sized machine (machineHolds .sized) FLUSHLOG thread place value fails)
+        (machineHolds .cacheSized)
+        (machineHolds .durableKept)
         (λ cell. refl)
         (λ cell. inr refl)
 
-    pub world-fence : AllFail (testsOf machine FENCE thread place value) → World start (effect machine FENCE thread place value .machine) (andThen history (tookStep FENCE thread place value)) ghost
+    pub machine-fence : AllFail (testsOf machine FENCE thread place value) →
+        MachineInvariant start (effect machine FENCE thread place value .machine)
+        (andThen history (tookStep FENCE thread place value)) ghost
     unfolding effect fenceEffect fenceLogOf fencedTail
-    world-fence fails =
+    machine-fence fails =
         let inRange = fence-asked machine thread place value fails in
         let log = logAt (machine .logs) thread in
-        let holds = world .logs thread inRange in
+        let holds = machineHolds .logs thread inRange in
         quiet-log
         (fenceLogOf log)
         inRange
@@ -249,21 +312,25 @@ module _ {start : Beginning} {machine : Machine} {history : List Fed} {ghost : G
         (fenceOf (machine .cache) thread)
         (tookStep FENCE thread place value)
         (quiet-step 9 thread place value refl (λ isKind. omega arith) (λ isKind. omega arith) inRange)
-        (effect-sized machine (world .sized) FENCE thread place value fails)
-        (CacheLaws.fenceOf-sized (machine .cache) (world .cacheSized) thread)
-        (CacheLaws.fenceOf-kept (machine .cache) (world .cacheSized) thread (world .durableKept))
-        (CacheLaws.fenceOf-cached (machine .cache) (world .cacheSized) thread)
-        (λ cell. kept-or-same (isPending (machine .cache) thread (lineOf cell)) (cachedAt (machine .cache) cell) (persistedAt (machine .cache) cell) (CacheLaws.fenceOf-persisted (machine .cache) (world .cacheSized) thread cell))
+        (effect-sized machine (machineHolds .sized) FENCE thread place value fails)
+        (CacheLaws.fenceOf-sized (machine .cache) (machineHolds .cacheSized) thread)
+        (CacheLaws.fenceOf-kept (machine .cache) (machineHolds .cacheSized) thread (machineHolds .durableKept))
+        (CacheLaws.fenceOf-cached (machine .cache) (machineHolds .cacheSized) thread)
+        (λ cell. kept-or-same (isPending (machine .cache) thread (lineOf cell)) (cachedAt (machine .cache) cell)
+        (persistedAt (machine .cache) cell)
+        (CacheLaws.fenceOf-persisted (machine .cache) (machineHolds .cacheSized) thread cell))
 
-    pub world-evict-log : AllFail (testsOf machine EVICTLOG thread place value) → World start (effect machine EVICTLOG thread place value .machine) (andThen history (tookStep EVICTLOG thread place value)) ghost
+    pub machine-evict-log : AllFail (testsOf machine EVICTLOG thread place value) →
+        MachineInvariant start (effect machine EVICTLOG thread place value .machine)
+        (andThen history (tookStep EVICTLOG thread place value)) ghost
     unfolding effect evictLogEffect evictSlotOf
-    world-evict-log fails =
+    machine-evict-log fails =
         let asked = evict-log-asked machine thread place value fails in
         let log = logAt (machine .logs) thread in
         quiet-log
         (evictSlotOf log place)
         (asked .inThread)
-        (evict-holds log (ghost .event thread) (world .logs thread (asked .inThread)) place (asked .isLive))
+        (evict-holds log (ghost .event thread) (machineHolds .logs thread (asked .inThread)) place (asked .isLive))
         refl
         refl
         (omega arith)
@@ -271,9 +338,9 @@ module _ {start : Beginning} {machine : Machine} {history : List Fed} {ghost : G
         (machine .cache)
         (tookStep EVICTLOG thread place value)
         (quiet-step 12 thread place value refl (λ isKind. omega arith) (λ isKind. omega arith) (asked .inThread))
-        (effect-sized machine (world .sized) EVICTLOG thread place value fails)
-        (world .cacheSized)
-        (world .durableKept)
+        (effect-sized machine (machineHolds .sized) EVICTLOG thread place value fails)
+        (machineHolds .cacheSized)
+        (machineHolds .durableKept)
         (λ cell. refl)
         (λ cell. inr refl)
 
@@ -286,12 +353,15 @@ module _ {start : Beginning} {machine : Machine} {history : List Fed} {ghost : G
     }
 
     -- the cell's entry in the thread's current region, which STORE asks for
-    pub stored-entry : AllFail (testsOf machine STORE thread place value) → (number old : ℕ) × Is (entriesOf start machine ghost) thread number (Store place old) × NoBoundaryAfter (entriesOf start machine ghost) thread number × (logAt (machine .logs) thread .head .0 ≤ number) × (number ≤ logAt (machine .logs) thread .tail .durable .0)
+    pub stored-entry : AllFail (testsOf machine STORE thread place value) →
+        (number old : ℕ) × Is (entriesOf start machine ghost) thread number (Store place old) ×
+        NoBoundaryAfter (entriesOf start machine ghost) thread number ×
+        (logAt (machine .logs) thread .head .0 ≤ number) × (number ≤ logAt (machine .logs) thread .tail .durable .0)
     stored-entry fails =
         let asked = store-asked machine thread place value fails in
-        let holds = world .logs thread (asked .inThread) in
+        let holds = machineHolds .logs thread (asked .inThread) in
         let found = logged-at (logAt (machine .logs) thread) (ghost .event thread) holds place (asked .number) (asked .isLogged) in
-        let since = world .begins thread (asked .inThread) in
+        let since = machineHolds .begins thread (asked .inThread) in
         let from = found .loggedFrom in (
           asked .number,
           found .old,
@@ -302,37 +372,43 @@ module _ {start : Beginning} {machine : Machine} {history : List Fed} {ghost : G
         )
 
     -- what STORE does to the cell
-    pub stores-cell : (fails : AllFail (testsOf machine STORE thread place value)) → StoresCell (entriesOf start machine ghost) thread (stored-entry fails .0) place value (contentsOf start (machine .cache)) (contentsOf start (storeOf (machine .cache) place value)) (ghost .versions) (storedVersions .versions)
+    pub stores-cell : (fails : AllFail (testsOf machine STORE thread place value)) →
+        StoresCell (entriesOf start machine ghost) thread (stored-entry fails .0) place value
+        (contentsOf start (machine .cache)) (contentsOf start (storeOf (machine .cache) place value))
+        (ghost .versions) (storedVersions .versions)
     unfolding storeOf
     stores-cell fails =
         let asked = store-asked machine thread place value fails in
         let found = stored-entry fails in
         record {
           newestDurable = record {
-            isNewest = world .cells .current (found .2) (found .3);
+            isNewest = machineHolds .cells .current (found .2) (found .3);
             live = found .4;
             isDurable = found .5;
           };
           startSame = λ other. refl;
-          cachedSelf = getD-set-same (machine .cache .cached) place value 0 (rw (world .cacheSized .cached-long) (asked .inCell));
+          cachedSelf = getD-set-same (machine .cache .cached) place value 0 (rw (machineHolds .cacheSized .cached-long) (asked .inCell));
           cachedOther = λ other differs. getD-set-other (machine .cache .cached) place other value 0 differs;
           persistedSame = λ other. refl;
           versionsSelf = setAt-here (ghost .versions) place (restored value (ghost .versions place));
           versionsOther = λ other differs. setAt-other (ghost .versions) place (restored value (ghost .versions place)) other differs;
         }
 
-    pub world-store : AllFail (testsOf machine STORE thread place value) → World start (effect machine STORE thread place value .machine) (andThen history (tookStep STORE thread place value)) storedVersions
+    pub machine-store : AllFail (testsOf machine STORE thread place value) →
+        MachineInvariant start (effect machine STORE thread place value .machine)
+        (andThen history (tookStep STORE thread place value)) storedVersions
     unfolding effect storeEffect
-    world-store fails =
-        world-aside
+    machine-store fails =
+        machine-aside
         (storeOf (machine .cache) place value)
         (machine .accesses)
         (tookStep STORE thread place value)
         storedVersions
         refl
         refl
-        (quiet-step 3 thread place value refl (λ isKind. omega arith) (λ isKind. omega arith) (store-asked machine thread place value fails .inThread))
-        (effect-sized machine (world .sized) STORE thread place value fails)
-        (CacheLaws.storeOf-sized (machine .cache) (world .cacheSized) place value)
-        (CacheLaws.storeOf-kept (machine .cache) (world .cacheSized) place value (world .durableKept))
-        (cells-store (stores-cell fails) (world .cells))
+        (quiet-step 3 thread place value refl (λ isKind. omega arith) (λ isKind. omega arith)
+        (store-asked machine thread place value fails .inThread))
+        (effect-sized machine (machineHolds .sized) STORE thread place value fails)
+        (CacheLaws.storeOf-sized (machine .cache) (machineHolds .cacheSized) place value)
+        (CacheLaws.storeOf-kept (machine .cache) (machineHolds .cacheSized) place value (machineHolds .durableKept))
+        (cells-store (stores-cell fails) (machineHolds .cells))

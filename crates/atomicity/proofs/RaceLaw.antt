@@ -19,13 +19,18 @@ use Rattle.atomicity.proofs.Follows.{Follows}
 use Rattle.atomicity.proofs.RaceTests.{load-ordered, load-race, log-ordered, log-race}
 use Rattle.atomicity.proofs.StepsFollow.{start-follows}
 
-module _ (machine : Machine) (history : List Fed) (follows : Follows machine history) (thread cell : ℕ) (isThread : thread < threadCount) (isCell : cell < cellCount) where
+module _ (machine : Machine) (history : List Fed) (follows : Follows machine history) (thread cell : ℕ)
+    (isThread : thread < threadCount) (isCell : cell < cellCount) where
   -- the access of the cell that the thread would take next
   abbrev nextStep : ℕ → Fed
   nextStep kind = record { kind = kind; thread = thread; place = cell; value = 0; accepted = true }
 
   -- an earlier access of the cell that does not happen before the next one is another thread's, and races with it
-  races-with : (kind place : ℕ) → IsAccess kind → stepAt history place .accepted ≡ true → IsAccess (stepAt history place .kind) → stepAt history place .place ≡ cell → (stepAt history place .kind ≡ 2) ⊎ (kind ≡ 2) → (HappensBefore (andThen history (nextStep kind)) place (length history) → ⊥) → Race (andThen history (nextStep kind)) place (length history)
+  races-with : (kind place : ℕ) → IsAccess kind → stepAt history place .accepted ≡ true →
+      IsAccess (stepAt history place .kind) → stepAt history place .place ≡ cell →
+      (stepAt history place .kind ≡ 2) ⊎ (kind ≡ 2) →
+      (HappensBefore (andThen history (nextStep kind)) place (length history) → ⊥) →
+      Race (andThen history (nextStep kind)) place (length history)
   races-with kind place isLaterAccess wasAccepted isAccess isPlace oneIsLog unordered =
       let next = nextStep kind in
       let inside = accepted-inside history place wasAccepted in
@@ -38,7 +43,8 @@ module _ (machine : Machine) (history : List Fed) (follows : Follows machine his
           isLaterAccepted = rw new;
           isAccess = rw old isAccess;
           isLaterAccess = rw new isLaterAccess;
-          otherThread = rw (old, new) (λ same. unordered (next-of-thread history next refl (rw same at (own-reaches history place wasAccepted))));
+          otherThread =
+              rw (old, new) (λ same. unordered (next-of-thread history next refl (rw same at (own-reaches history place wasAccepted))));
           sameCell = rw (old, new) isPlace;
           oneIsLog = rw (old, new) oneIsLog;
         };
@@ -46,7 +52,8 @@ module _ (machine : Machine) (history : List Fed) (follows : Follows machine his
       }
 
   -- what is in conflict with the next access is an earlier access of the cell
-  earlier-access : (kind place : ℕ) → Conflict (andThen history (nextStep kind)) place (length history) → Took history (λ step. IsAccess (step .kind) × (step .place ≡ cell) × ((step .kind ≡ 2) ⊎ (kind ≡ 2))) place
+  earlier-access : (kind place : ℕ) → Conflict (andThen history (nextStep kind)) place (length history) →
+      Took history (λ step. IsAccess (step .kind) × (step .place ≡ cell) × ((step .kind ≡ 2) ⊎ (kind ≡ 2))) place
   earlier-access kind place conflict =
       let next = nextStep kind in
       let old = step-stays history (next ∷ []) place (conflict .isEarlier) in
@@ -66,7 +73,8 @@ module _ (machine : Machine) (history : List Fed) (follows : Follows machine his
     ordered = λ fails place conflict.
         let access = earlier-access 1 place conflict in
         let isLog : stepAt history place .kind ≡ 2 = ⊎-elim (λ isLog. isLog) (λ never. absurd (omega arith)) (access .isSort .2) in
-        load-ordered machine history follows (nextStep 1) refl isThread (omega arith) cell isCell fails place (record { isAccepted = access .isAccepted; isSort = (isLog, access .isSort .1) });
+        load-ordered machine history follows (nextStep 1) refl isThread (omega arith) cell isCell fails place
+        (record { isAccepted = access .isAccepted; isSort = (isLog, access .isSort .1) });
   }
 
   pub log-decides : DecidesRaces history 2 thread cell (logRaces machine thread cell)
@@ -77,7 +85,8 @@ module _ (machine : Machine) (history : List Fed) (follows : Follows machine his
         (found .0, races-with 2 (found .0) (inr refl) (found .1 .isAccepted) (isAccess .0) (isAccess .1) (inr refl) (found .2));
     ordered = λ fails place conflict.
         let access = earlier-access 2 place conflict in
-        log-ordered machine history follows (nextStep 2) refl isThread (omega arith) cell isCell fails place (access .isAccepted) (access .isSort .0) (access .isSort .1);
+        log-ordered machine history follows (nextStep 2) refl isThread (omega arith) cell isCell fails place
+        (access .isAccepted) (access .isSort .0) (access .isSort .1);
   }
 
 -- of every machine that steps lead to

@@ -25,7 +25,8 @@ use Rattle.atomicity.proofs.ClockInvariant.{clock-knows-next}
 use Rattle.atomicity.proofs.AccessInvariant.{Logged, LastLog, Took, LogOf}
 use Rattle.atomicity.proofs.Follows.{Follows}
 
-module _ (machine : Machine) (history : List Fed) (follows : Follows machine history) (next : Fed) (isAccepted : next .accepted ≡ true) (isThread : next .thread < threadCount) (notAcquire : next .kind ≢ 4) where
+module _ (machine : Machine) (history : List Fed) (follows : Follows machine history) (next : Fed)
+    (isAccepted : next .accepted ≡ true) (isThread : next .thread < threadCount) (notAcquire : next .kind ≢ 4) where
   knows : KnowsNext history next (clockAt (clockOf machine (next .thread)))
   knows = clock-knows-next (machine .clocks) (machine .«lock_clocks») history next (follows .clocked) isAccepted isThread notAcquire
 
@@ -34,7 +35,8 @@ module _ (machine : Machine) (history : List Fed) (follows : Follows machine his
     logs = follows .accessed .logs cell isCell
 
     -- a LOAD's test fails: all LOGs of the cell happen before the step
-    pub load-ordered : loadRaces machine (next .thread) cell ≡ false → (place : ℕ) → Took history (LogOf cell) place → HappensBefore (andThen history next) place (length history)
+    pub load-ordered : loadRaces machine (next .thread) cell ≡ false → (place : ℕ) → Took history (LogOf cell) place →
+        HappensBefore (andThen history next) place (length history)
     unfolding loadRaces
     load-ordered fails place took =
         by-cases
@@ -42,31 +44,47 @@ module _ (machine : Machine) (history : List Fed) (follows : Follows machine his
         (λ isNone. absurd (logs .none isNone place took))
         (λ isSome. by-last (logs .last isSome))
       where
-        counted : getD (machine .accesses .logged) cell 0 ≤ clockAt (clockOf machine (next .thread)) (getD (machine .accesses .loggers) cell 0)
+        counted : getD (machine .accesses .logged) cell 0 ≤
+            clockAt (clockOf machine (next .thread)) (getD (machine .accesses .loggers) cell 0)
         counted = leb-true _ _ (not-false _ fails)
 
-        by-last : LastLog history cell (getD (machine .accesses .logged) cell 0) (getD (machine .accesses .loggers) cell 0) → HappensBefore (andThen history next) place (length history)
+        by-last : LastLog history cell (getD (machine .accesses .logged) cell 0) (getD (machine .accesses .loggers) cell 0) →
+            HappensBefore (andThen history next) place (length history)
         by-last last =
-            let lastBefore = knows .before (last .place) (last .isLog .isAccepted) (omega (arith, counted, last .isEpoch, ap (clockAt (clockOf machine (next .thread))) (last .isLogger))) in
-            ⊎-elim (λ same. rw same lastBefore) (λ before. through (before-stays history (next ∷ []) before) lastBefore) (last .othersBefore place took)
+            let lastBefore =
+            knows .before (last .place) (last .isLog .isAccepted)
+            (omega (arith, counted, last .isEpoch, ap (clockAt (clockOf machine (next .thread))) (last .isLogger))) in
+            ⊎-elim (λ same. rw same lastBefore) (λ before. through (before-stays history (next ∷ []) before) lastBefore)
+            (last .othersBefore place took)
 
     -- it holds: some LOG of the cell does not
-    pub load-race : loadRaces machine (next .thread) cell ≡ true → (place : ℕ) × Took history (LogOf cell) place × (HappensBefore (andThen history next) place (length history) → ⊥)
+    pub load-race : loadRaces machine (next .thread) cell ≡ true →
+        (place : ℕ) × Took history (LogOf cell) place × (HappensBefore (andThen history next) place (length history) → ⊥)
     unfolding loadRaces
     load-race holds = by-last (logs .last (λ isNone. omega (arith, uncounted)))
       where
-        uncounted : clockAt (clockOf machine (next .thread)) (getD (machine .accesses .loggers) cell 0) < getD (machine .accesses .logged) cell 0
+        uncounted : clockAt (clockOf machine (next .thread)) (getD (machine .accesses .loggers) cell 0) <
+            getD (machine .accesses .logged) cell 0
         uncounted = leb-false _ _ (not-true _ holds)
 
-        by-last : LastLog history cell (getD (machine .accesses .logged) cell 0) (getD (machine .accesses .loggers) cell 0) → (place : ℕ) × Took history (LogOf cell) place × (HappensBefore (andThen history next) place (length history) → ⊥)
+        by-last : LastLog history cell (getD (machine .accesses .logged) cell 0) (getD (machine .accesses .loggers) cell 0) →
+            (place : ℕ) × Took history (LogOf cell) place × (HappensBefore (andThen history next) place (length history) → ⊥)
         by-last last = (
           last .place,
           last .isLog,
-          λ before. omega (arith, uncounted, last .isEpoch, ap (clockAt (clockOf machine (next .thread))) (last .isLogger), knows .counts (last .place) (last .isLog .isAccepted) before),
+          λ before. omega (
+            arith,
+            uncounted,
+            last .isEpoch,
+            ap (clockAt (clockOf machine (next .thread))) (last .isLogger),
+            knows .counts (last .place) (last .isLog .isAccepted) before,
+          ),
         )
 
     -- a LOG's test fails: all accesses of the cell happen before the step
-    pub log-ordered : logRaces machine (next .thread) cell ≡ false → (place : ℕ) → stepAt history place .accepted ≡ true → IsAccess (stepAt history place .kind) → stepAt history place .place ≡ cell → HappensBefore (andThen history next) place (length history)
+    pub log-ordered : logRaces machine (next .thread) cell ≡ false → (place : ℕ) →
+        stepAt history place .accepted ≡ true → IsAccess (stepAt history place .kind) →
+        stepAt history place .place ≡ cell → HappensBefore (andThen history next) place (length history)
     unfolding logRaces
     log-ordered fails place wasAccepted isAccess isPlace = knows .before place wasAccepted (omega (arith, stamped, counted))
       where
@@ -77,16 +95,27 @@ module _ (machine : Machine) (history : List Fed) (follows : Follows machine his
         counted = leb-true _ _ (not-false _ (someBelow-none threadCount _ fails thread (follows .inRange place wasAccepted)))
 
         stamped : epochAt history place ≤ getD (machine .accesses .stamps) (accessPlace cell thread) 0
-        stamped = follows .accessed .stamps cell thread isCell (follows .inRange place wasAccepted) .atMost place (record { isAccepted = wasAccepted; isSort = (isAccess, isPlace, refl) })
+        stamped =
+            follows .accessed .stamps cell thread isCell (follows .inRange place wasAccepted) .atMost place
+            (record { isAccepted = wasAccepted; isSort = (isAccess, isPlace, refl) })
 
     -- it holds: some access of the cell does not
-    pub log-race : logRaces machine (next .thread) cell ≡ true → (place : ℕ) × Took history (λ step. IsAccess (step .kind) × (step .place ≡ cell)) place × (HappensBefore (andThen history next) place (length history) → ⊥)
+    pub log-race : logRaces machine (next .thread) cell ≡ true →
+        (place : ℕ) × Took history (λ step. IsAccess (step .kind) × (step .place ≡ cell)) place ×
+        (HappensBefore (andThen history next) place (length history) → ⊥)
     unfolding logRaces
     log-race holds =
         let found = someBelow-found threadCount _ holds in
-        let uncounted : clockAt (clockOf machine (next .thread)) (found .number) < getD (machine .accesses .stamps) (accessPlace cell (found .number)) 0 = leb-false _ _ (not-true _ (found .holds)) in
+        let uncounted : clockAt (clockOf machine (next .thread)) (found .number) <
+        getD (machine .accesses .stamps) (accessPlace cell (found .number)) 0 =
+        leb-false _ _ (not-true _ (found .holds)) in
         let last = follows .accessed .stamps cell (found .number) isCell (found .below) .latest (λ isNone. omega arith) in (
           last .0,
           record { isAccepted = last .1 .isAccepted; isSort = (last .1 .isSort .0, last .1 .isSort .1) },
-          λ before. omega (arith, last .2, ap (clockAt (clockOf machine (next .thread))) (last .1 .isSort .2), knows .counts (last .0) (last .1 .isAccepted) before),
+          λ before. omega (
+            arith,
+            last .2,
+            ap (clockAt (clockOf machine (next .thread))) (last .1 .isSort .2),
+            knows .counts (last .0) (last .1 .isAccepted) before,
+          ),
         )

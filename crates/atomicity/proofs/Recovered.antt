@@ -1,20 +1,20 @@
 -- What recovery finds in the image of a cut: the present entries are the machine's, and undoing them is what the undoing lemma asks for,
 -- with the reference model's cells as the ones wanted.
-use Prim.Native.Nat.{ℕ, zero, suc, _+_, _-_, _≤_, _<_}
+use Prim.Native.Nat.{ℕ, _+_, _-_, _≤_, _<_}
 use native.Mathlib.Decide.{decLt}
 use native.Mathlib.Omega.{arith}
 use mathlib.Core.Path.{_≡_, refl, sym, ap, _∙_, subst}
 use mathlib.Core.Bool.{Bool, true, false, cond}
-use mathlib.Core.List.{List, [], _∷_, map}
+use mathlib.Core.List.{List, [], _∷_}
 use mathlib.Core.Option.{Option, none, some}
 use mathlib.Core.Logic.{_⊎_, inl, inr, ⊎-elim, by-cases}
 use lib.ListN.{length, getD, length-map, List·getD-eq-default}
 use lib.Dec.{eqb, ltb}
 use borrow.Author.Tests.{lt-ltb, le-ltb, ne-eqb}
-use Rattle.sizes.specs.Sizes.{threadCount}
+use Rattle.sizes.specs.Sizes.{threadCount, lockCount}
 use Rattle.answer.specs.Lists.{someBelow}
 use Rattle.answer.proofs.BelowLaws.{none-someBelow}
-use Rattle.answer.proofs.ListLaws.{length-tab, getD-tab}
+use Rattle.answer.proofs.ListLaws.{length-tab, getD-tab, getD-map}
 use Rattle.cache.proofs.CacheLaws as CacheLaws
 use Rattle.undo.specs.Events.{syncCount, kindOf, placeOf, valueOf, payloadOf}
 use Rattle.log.specs.Entries.{wordsOf}
@@ -30,8 +30,9 @@ use Rattle.machine.specs.Holds.{noLog, lockOf}
 use Rattle.machine.specs.Image.{imageOf}
 use Rattle.machine.specs.declared.Machine.{Machine}
 use Rattle.machine.proofs.Counts.{Counted, count-bound}
-use Rattle.recovery.specs.Recover.{isBadHead, isBadEntry, hasBadEntry}
-use Rattle.recovery.specs.Undo.{StoredLog, storedLogs, storedLog, presentIn, entryKind, entryPlace, entryValue, leftOf, undoStart}
+use Rattle.image.specs.Stored.{StoredLog, storedLogs, storedLog, presentIn, entryKind, entryPlace, entryValue}
+use Rattle.image.specs.Tests.{isBadHead, isBadEntry, hasBadEntry}
+use Rattle.recovery.specs.Undo.{leftOf, undoStart}
 use Rattle.reference.specs.Reference.{Book, emptyBook, openOf, openUnless, write, feed, feedAccepted, cellsOf}
 use Rattle.atomicity.specs.History.{Fed, fedBook}
 use Rattle.atomicity.proofs.Logged.{Entries, Made, Is, IsReleaseOf, IsAcquireOf}
@@ -40,8 +41,8 @@ use Rattle.atomicity.proofs.OldestLive.{prunedValue, undo-cell, leads-p
 use Rattle.atomicity.proofs.Times.{Formed, aStore, anAcquire, aRelease}
 use Rattle.atomicity.proofs.Undoable.{Remains, Below, Untouched, Oldest, Undoable, older, handed, joined}
 use Rattle.atomicity.proofs.LogViews.{logAt}
-use Rattle.atomicity.proofs.RunInvariant.{Whole, bookOf}
-use Rattle.atomicity.proofs.MachineInvariant.{Beginning, Ghost, World, entriesOf}
+use Rattle.atomicity.proofs.RunInvariant.{RunInvariant, bookOf}
+use Rattle.atomicity.proofs.MachineInvariant.{Beginning, Ghost, MachineInvariant, entriesOf}
 use Rattle.atomicity.proofs.Writes.{book-cell, book-length}
 
 -- the reference model keeps its start cells
@@ -94,27 +95,24 @@ store-event (Store cell old) isKind isPlace isValue = cc
 store-event (Acquire lock count) isKind isPlace isValue = absurd (omega arith)
 store-event (Release lock count) isKind isPlace isValue = absurd (omega arith)
 
-acquire-event : (event : Event) {lock value : ℕ} → kindOf event ≡ 2 → placeOf event ≡ lock → valueOf event ≡ value → event ≡ Acquire lock (syncCount value)
+acquire-event : (event : Event) {lock value : ℕ} → kindOf event ≡ 2 → placeOf event ≡ lock → valueOf event ≡ value →
+    event ≡ Acquire lock (syncCount value)
 acquire-event Empty isKind isPlace isValue = absurd (omega arith)
 acquire-event (Store cell old) isKind isPlace isValue = absurd (omega arith)
 acquire-event (Acquire lock count) isKind isPlace isValue = let same : count ≡ syncCount _ = ap syncCount isValue in cc
 acquire-event (Release lock count) isKind isPlace isValue = absurd (omega arith)
 
-release-event : (event : Event) {lock value : ℕ} → kindOf event ≡ 3 → placeOf event ≡ lock → valueOf event ≡ value → event ≡ Release lock (syncCount value)
+release-event : (event : Event) {lock value : ℕ} → kindOf event ≡ 3 → placeOf event ≡ lock → valueOf event ≡ value →
+    event ≡ Release lock (syncCount value)
 release-event Empty isKind isPlace isValue = absurd (omega arith)
 release-event (Store cell old) isKind isPlace isValue = absurd (omega arith)
 release-event (Acquire lock count) isKind isPlace isValue = absurd (omega arith)
 release-event (Release lock count) isKind isPlace isValue = let same : count ≡ syncCount _ = ap syncCount isValue in cc
 
--- what a mapped list has at a place
-getD-mapped : {A B : Type 0} (f : A → B) (list : List A) (place : ℕ) (default : A) (other : B) → place < length list → getD (map f list) place other ≡ f (getD list place default)
-getD-mapped f [] place default other inRange = absurd (omega arith)
-getD-mapped f (first ∷ list) zero default other inRange = refl
-getD-mapped f (first ∷ list) (suc place) default other inRange = getD-mapped f list place default other (omega arith)
-
-module _ {start : Beginning} {machine : Machine} {history : List Fed} (whole : Whole start machine history) (counted : Counted machine) (startLength : length (start .cells) ≡ 128) where
+module _ {start : Beginning} {machine : Machine} {history : List Fed} (runHolds : RunInvariant start machine history)
+    (counted : Counted machine) (startLength : length (start .cells) ≡ 128) where
   abbrev ghost : Ghost
-  ghost = whole .ghost
+  ghost = runHolds .ghost
 
   abbrev entries : Entries
   entries = entriesOf start machine ghost
@@ -122,41 +120,48 @@ module _ {start : Beginning} {machine : Machine} {history : List Fed} (whole : W
   abbrev pub image : List ℕ
   image = imageOf machine
 
-  world : World start machine history ghost
-  world = whole .world
+  machineHolds : MachineInvariant start machine history ghost
+  machineHolds = runHolds .machineHolds
 
   -- the image holds the persisted cells, the heads and the persisted words of each log
-  pub reads : Reads image (machine .cache .persisted) (λ thread. logAt (machine .logs) thread .head .0) (λ thread. wordsOf (logAt (machine .logs) thread .persisted))
+  pub reads : Reads image (machine .cache .persisted) (λ thread. logAt (machine .logs) thread .head .0)
+      (λ thread. wordsOf (logAt (machine .logs) thread .persisted))
   unfolding imageOf
-  reads = logs-read (machine .cache .persisted) (machine .logs) noLog (world .cacheSized .persisted-long) (world .sized .logs) (λ thread inRange. world .logs thread inRange .persistedSlots)
+  reads =
+      logs-read (machine .cache .persisted) (machine .logs) noLog (machineHolds .cacheSized .persisted-long)
+      (machineHolds .sized .logs) (λ thread inRange. machineHolds .logs thread inRange .persistedSlots)
 
-  stored-in : (thread : ℕ) → thread < 4 → thread < length (storedLogs image)
+  stored-in : (thread : ℕ) → thread < threadCount → thread < length (storedLogs image)
   unfolding storedLogs
   stored-in thread inRange = simp length-tab inRange
 
-  stored-is : (thread : ℕ) → thread < 4 → storedLog (storedLogs image) thread ≡ record { head = logAt (machine .logs) thread .head .0; stretch = wordsOf (logAt (machine .logs) thread .persisted) }
+  stored-is : (thread : ℕ) → thread < threadCount →
+      storedLog (storedLogs image) thread ≡
+      record { head = logAt (machine .logs) thread .head .0; stretch = wordsOf (logAt (machine .logs) thread .persisted) }
   unfolding storedLogs
   stored-is thread inRange =
-      getD-tab 4 (λ t. record { head = getD image (headsAt + t) 0; stretch = stretchOf image t }) thread (record { head = 0; stretch = [] }) inRange ∙
+      getD-tab threadCount (λ t. record { head = getD image (headsAt + t) 0; stretch = stretchOf image t }) thread
+      (record { head = 0; stretch = [] }) inRange ∙
       (λ i. record { head = reads .headIs thread inRange i; stretch = reads .stretchIs thread inRange i })
 
   abbrev left : List ℕ
   left = undoStart image .left
 
-  pub left-length : length left ≡ 4
+  pub left-length : length left ≡ threadCount
   unfolding undoStart storedLogs
   left-length = simp (length-map, length-tab)
 
-  left-is : (thread : ℕ) → thread < 4 → leftOf left thread ≡ presentOf (wordsOf (logAt (machine .logs) thread .persisted)) (logAt (machine .logs) thread .head .0)
+  left-is : (thread : ℕ) → thread < threadCount →
+      leftOf left thread ≡ presentOf (wordsOf (logAt (machine .logs) thread .persisted)) (logAt (machine .logs) thread .head .0)
   unfolding undoStart
   left-is thread inRange =
-      getD-mapped presentIn (storedLogs image) thread (record { head = 0; stretch = [] }) 0 (stored-in thread inRange) ∙
+      getD-map presentIn (storedLogs image) thread (record { head = 0; stretch = [] }) 0 (stored-in thread inRange) ∙
       ap presentIn (stored-is thread inRange)
 
-  left-thread : (thread index : ℕ) → index < leftOf left thread → thread < 4
+  left-thread : (thread index : ℕ) → index < leftOf left thread → thread < threadCount
   left-thread thread index isLeft =
       by-cases
-      (decLt thread 4)
+      (decLt thread threadCount)
       (λ inRange. inRange)
       (λ beyond.
       let long = left-length in
@@ -167,23 +172,26 @@ module _ {start : Beginning} {machine : Machine} {history : List Fed} (whole : W
   abbrev pub end : ℕ → ℕ
   end thread = logAt (machine .logs) thread .head .0 + leftOf left thread
 
-  presents : (thread : ℕ) → thread < 4 → PresentAre (logAt (machine .logs) thread) (λ number. payloadOf (ghost .event thread number))
-  presents thread inRange = present-are (logAt (machine .logs) thread) (λ number. payloadOf (ghost .event thread number)) (world .logs thread inRange)
+  presents : (thread : ℕ) → thread < threadCount →
+      PresentAre (logAt (machine .logs) thread) (λ number. payloadOf (ghost .event thread number))
+  presents thread inRange =
+      present-are (logAt (machine .logs) thread) (λ number. payloadOf (ghost .event thread number)) (machineHolds .logs thread inRange)
 
   -- an entry was made by one of the four threads
-  made-thread : (thread number : ℕ) → Made entries thread number → thread < 4
+  made-thread : (thread number : ℕ) → Made entries thread number → thread < threadCount
   made-thread thread number made =
       by-cases
-      (decLt thread 4)
+      (decLt thread threadCount)
       (λ inRange. inRange)
       (λ beyond.
-      let long = world .sized .logs in
+      let long = machineHolds .sized .logs in
       let none : logAt (machine .logs) thread ≡ noLog = List·getD-eq-default (machine .logs) noLog (omega (arith, beyond)) in
       let next : logAt (machine .logs) thread .tail .next .0 ≡ 0 = ap (λ (log : Log). log .tail .next .0) none in
       let below = made .below in
       absurd (omega arith))
 
-  durable-present : (thread number : ℕ) → Made entries thread number → number ≤ logAt (machine .logs) thread .tail .durable .0 → number < end thread
+  durable-present : (thread number : ℕ) → Made entries thread number →
+      number ≤ logAt (machine .logs) thread .tail .durable .0 → number < end thread
   durable-present thread number made isDurable =
       let inRange = made-thread thread number made in
       let found = presents thread inRange .durablePresent in
@@ -191,7 +199,9 @@ module _ {start : Beginning} {machine : Machine} {history : List Fed} (whole : W
       omega arith
 
   -- the words of a present entry are those of what the thread logged
-  words-at : (thread index : ℕ) → index < leftOf left thread → WordsAre (wordsOf (logAt (machine .logs) thread .persisted)) (logAt (machine .logs) thread .head .0 + index) (payloadOf (ghost .event thread (logAt (machine .logs) thread .head .0 + index)))
+  words-at : (thread index : ℕ) → index < leftOf left thread →
+      WordsAre (wordsOf (logAt (machine .logs) thread .persisted)) (logAt (machine .logs) thread .head .0 + index)
+      (payloadOf (ghost .event thread (logAt (machine .logs) thread .head .0 + index)))
   words-at thread index isLeft =
       let inRange = left-thread thread index isLeft in
       presents thread inRange .presentIs index (rw (← left-is thread inRange) isLeft)
@@ -201,49 +211,69 @@ module _ {start : Beginning} {machine : Machine} {history : List Fed} (whole : W
       let inRange = left-thread thread index isLeft in
       let live = presents thread inRange .presentLive in
       let same = left-is thread inRange in
-      let since = world .begins thread inRange in
+      let since = machineHolds .begins thread inRange in
       record { since = omega arith; below = omega arith }
 
   -- a present entry's kind, place and value, as recovery reads them
-  kind-at : (thread index : ℕ) → index < leftOf left thread → entryKind (storedLog (storedLogs image) thread) index ≡ kindOf (ghost .event thread (logAt (machine .logs) thread .head .0 + index))
+  kind-at : (thread index : ℕ) → index < leftOf left thread →
+      entryKind (storedLog (storedLogs image) thread) index ≡ kindOf (ghost .event thread (logAt (machine .logs) thread .head .0 + index))
   kind-at thread index isLeft =
-      ap (λ (log : StoredLog). entryKind log index) (stored-is thread (left-thread thread index isLeft)) ∙ words-at thread index isLeft .kindIs
+      ap (λ (log : StoredLog). entryKind log index) (stored-is thread (left-thread thread index isLeft)) ∙
+      words-at thread index isLeft .kindIs
 
-  place-at : (thread index : ℕ) → index < leftOf left thread → entryPlace (storedLog (storedLogs image) thread) index ≡ placeOf (ghost .event thread (logAt (machine .logs) thread .head .0 + index))
+  place-at : (thread index : ℕ) → index < leftOf left thread →
+      entryPlace (storedLog (storedLogs image) thread) index ≡ placeOf (ghost .event thread (logAt (machine .logs) thread .head .0 + index))
   place-at thread index isLeft =
-      ap (λ (log : StoredLog). entryPlace log index) (stored-is thread (left-thread thread index isLeft)) ∙ words-at thread index isLeft .placeIs
+      ap (λ (log : StoredLog). entryPlace log index) (stored-is thread (left-thread thread index isLeft)) ∙
+      words-at thread index isLeft .placeIs
 
-  value-at : (thread index : ℕ) → index < leftOf left thread → entryValue (storedLog (storedLogs image) thread) index ≡ valueOf (ghost .event thread (logAt (machine .logs) thread .head .0 + index))
+  value-at : (thread index : ℕ) → index < leftOf left thread →
+      entryValue (storedLog (storedLogs image) thread) index ≡ valueOf (ghost .event thread (logAt (machine .logs) thread .head .0 + index))
   value-at thread index isLeft =
-      ap (λ (log : StoredLog). entryValue log index) (stored-is thread (left-thread thread index isLeft)) ∙ words-at thread index isLeft .valueIs
+      ap (λ (log : StoredLog). entryValue log index) (stored-is thread (left-thread thread index isLeft)) ∙
+      words-at thread index isLeft .valueIs
 
   -- what remains is an entry
-  remains-store : {thread index cell value : ℕ} → Remains (storedLogs image) left thread index 1 cell value → Is entries thread (logAt (machine .logs) thread .head .0 + index) (Store cell value)
+  remains-store : {thread index cell value : ℕ} → Remains (storedLogs image) left thread index 1 cell value →
+      Is entries thread (logAt (machine .logs) thread .head .0 + index) (Store cell value)
   remains-store {thread} {index} remains =
       let isLeft = remains .isLeft in
       record {
         made = made-at thread index isLeft;
-        says = store-event _ (sym (kind-at thread index isLeft) ∙ remains .isKind) (sym (place-at thread index isLeft) ∙ remains .isPlace) (sym (value-at thread index isLeft) ∙ remains .isValue);
+        says =
+            store-event _ (sym (kind-at thread index isLeft) ∙ remains .isKind)
+            (sym (place-at thread index isLeft) ∙ remains .isPlace)
+            (sym (value-at thread index isLeft) ∙ remains .isValue);
       }
 
-  remains-acquire : {thread index lock value : ℕ} → Remains (storedLogs image) left thread index 2 lock value → IsAcquireOf entries thread (logAt (machine .logs) thread .head .0 + index) lock value
+  remains-acquire : {thread index lock value : ℕ} → Remains (storedLogs image) left thread index 2 lock value →
+      IsAcquireOf entries thread (logAt (machine .logs) thread .head .0 + index) lock value
   remains-acquire {thread} {index} remains =
       let isLeft = remains .isLeft in
       record {
         made = made-at thread index isLeft;
-        says = acquire-event _ (sym (kind-at thread index isLeft) ∙ remains .isKind) (sym (place-at thread index isLeft) ∙ remains .isPlace) (sym (value-at thread index isLeft) ∙ remains .isValue);
+        says =
+            acquire-event _ (sym (kind-at thread index isLeft) ∙ remains .isKind)
+            (sym (place-at thread index isLeft) ∙ remains .isPlace)
+            (sym (value-at thread index isLeft) ∙ remains .isValue);
       }
 
-  remains-release : {thread index lock value : ℕ} → Remains (storedLogs image) left thread index 3 lock value → IsReleaseOf entries thread (logAt (machine .logs) thread .head .0 + index) lock value
+  remains-release : {thread index lock value : ℕ} → Remains (storedLogs image) left thread index 3 lock value →
+      IsReleaseOf entries thread (logAt (machine .logs) thread .head .0 + index) lock value
   remains-release {thread} {index} remains =
       let isLeft = remains .isLeft in
       record {
         made = made-at thread index isLeft;
-        says = release-event _ (sym (kind-at thread index isLeft) ∙ remains .isKind) (sym (place-at thread index isLeft) ∙ remains .isPlace) (sym (value-at thread index isLeft) ∙ remains .isValue);
+        says =
+            release-event _ (sym (kind-at thread index isLeft) ∙ remains .isKind)
+            (sym (place-at thread index isLeft) ∙ remains .isPlace)
+            (sym (value-at thread index isLeft) ∙ remains .isValue);
       }
 
   -- a live entry that is present remains
-  is-remains : {thread number : ℕ} {event : Event} → Is entries thread number event → logAt (machine .logs) thread .head .0 ≤ number → number < end thread → Remains (storedLogs image) left thread (number - logAt (machine .logs) thread .head .0) (kindOf event) (placeOf event) (valueOf event)
+  is-remains : {thread number : ℕ} {event : Event} → Is entries thread number event →
+      logAt (machine .logs) thread .head .0 ≤ number → number < end thread →
+      Remains (storedLogs image) left thread (number - logAt (machine .logs) thread .head .0) (kindOf event) (placeOf event) (valueOf event)
   is-remains {thread} {number} {event} is live present =
       let head = logAt (machine .logs) thread .head .0 in
       let index = number - head in
@@ -258,15 +288,21 @@ module _ {start : Beginning} {machine : Machine} {history : List Fed} (whole : W
       }
 
   -- the order on entries is recovery's order on what is present
-  leads-below : {thread number other later : ℕ} → Leads entries thread number other later → logAt (machine .logs) thread .head .0 ≤ number → later < end other → Below (storedLogs image) left thread (number - logAt (machine .logs) thread .head .0) other (later - logAt (machine .logs) other .head .0)
-  leads-below {thread} {number} (inThread {later} before) live present = older thread (number - logAt (machine .logs) thread .head .0) (later - logAt (machine .logs) thread .head .0) (omega arith) (omega arith)
+  leads-below : {thread number other later : ℕ} → Leads entries thread number other later →
+      logAt (machine .logs) thread .head .0 ≤ number → later < end other →
+      Below (storedLogs image) left thread (number - logAt (machine .logs) thread .head .0) other
+      (later - logAt (machine .logs) other .head .0)
+  leads-below {thread} {number} (inThread {later} before) live present =
+      older thread (number - logAt (machine .logs) thread .head .0) (later - logAt (machine .logs) thread .head .0)
+      (omega arith) (omega arith)
   leads-below {thread} {number} {other} {later} (byLock {lock} {count} {larger} release acquire smaller) live present =
       let liveLater : logAt (machine .logs) other .head .0 ≤ later =
       by-cases
       (decLt later (logAt (machine .logs) other .head .0))
-      (λ pruned. let gone = leads-pruned (world .prunes) (byLock release acquire smaller) pruned in absurd (omega arith))
+      (λ pruned. let gone = leads-pruned (machineHolds .prunes) (byLock release acquire smaller) pruned in absurd (omega arith))
       (λ notPruned. omega (arith, notPruned)) in
-      let presentToo = leads-present (world .locks) (world .prunes) end durable-present (byLock release acquire smaller) live present in
+      let presentToo =
+      leads-present (machineHolds .locks) (machineHolds .prunes) end durable-present (byLock release acquire smaller) live present in
       handed thread (number - logAt (machine .logs) thread .head .0) other (later - logAt (machine .logs) other .head .0) (record {
         lock = lock;
         count = count;
@@ -278,17 +314,19 @@ module _ {start : Beginning} {machine : Machine} {history : List Fed} (whole : W
   leads-below {thread} {number} (through {other} {later} first second) live present =
       by-cases
       (decLt later (logAt (machine .logs) other .head .0))
-      (λ pruned. let gone = leads-pruned (world .prunes) first pruned in absurd (omega arith))
+      (λ pruned. let gone = leads-pruned (machineHolds .prunes) first pruned in absurd (omega arith))
       (λ notPruned.
       let liveMiddle : logAt (machine .logs) other .head .0 ≤ later = omega (arith, notPruned) in
-      joined (leads-below first live (leads-present (world .locks) (world .prunes) end durable-present second liveMiddle present)) (leads-below second liveMiddle present))
+      joined (leads-below first live
+      (leads-present (machineHolds .locks) (machineHolds .prunes) end durable-present second liveMiddle present))
+      (leads-below second liveMiddle present))
 
   -- 22 is never given: heads are in range
   pub heads-good : someBelow threadCount (λ thread. isBadHead (storedLog (storedLogs image) thread)) ≡ false
   unfolding isBadHead
   heads-good =
       none-someBelow threadCount (λ thread. isBadHead (storedLog (storedLogs image) thread)) (λ thread inRange.
-      let holds = world .logs thread inRange in
+      let holds = machineHolds .logs thread inRange in
       let positive = holds .headPositive in
       let within = holds .headNext in
       let bound = holds .nextBound in
@@ -298,24 +336,31 @@ module _ {start : Beginning} {machine : Machine} {history : List Fed} (whole : W
       ap isBadHead (stored-is thread inRange) ∙ rw (notZero, notOver))
 
   -- the count that an entry names is bounded
-  count-good : {thread number : ℕ} {event : Event} → Is entries thread number event → Formed event → isBadEntry (kindOf event) (placeOf event) (valueOf event) ≡ false
+  count-good : {thread number : ℕ} {event : Event} → Is entries thread number event → Formed event →
+      isBadEntry (kindOf event) (placeOf event) (valueOf event) ≡ false
   unfolding isBadEntry
   count-good is (aStore inRange) = rw (lt-ltb _ _ inRange)
   count-good {thread} {number} is (anAcquire {lock} {count} inRange) =
       let bound = count-bound machine counted lock in
-      let less : count .0 ≤ lockOf machine lock .count .0 = world .locks .acquireCount {count = count .0} is in
-      rw (lt-ltb lock 8 inRange, le-ltb 4000000 (count .0) (omega arith))
+      let less : count .0 ≤ lockOf machine lock .count .0 = machineHolds .locks .acquireCount {count = count .0} is in
+      rw (lt-ltb lock lockCount inRange, le-ltb 4000000 (count .0) (omega arith))
   count-good {thread} {number} is (aRelease {lock} {count} inRange) =
       let bound = count-bound machine counted lock in
-      let less : count .0 ≤ lockOf machine lock .count .0 = ⊎-elim (λ taken. omega arith) (λ waits. let equal = waits .isCount in omega arith) (world .locks .state {count = count .0} is) in
-      rw (lt-ltb lock 8 inRange, le-ltb 4000000 (count .0) (omega arith))
+      let less : count .0 ≤ lockOf machine lock .count .0 =
+      ⊎-elim (λ taken. omega arith) (λ waits. let equal = waits .isCount in omega arith)
+      (machineHolds .locks .state {count = count .0} is) in
+      rw (lt-ltb lock lockCount inRange, le-ltb 4000000 (count .0) (omega arith))
 
-  entry-good : (thread index : ℕ) → index < leftOf left thread → isBadEntry (entryKind (storedLog (storedLogs image) thread) index) (entryPlace (storedLog (storedLogs image) thread) index) (entryValue (storedLog (storedLogs image) thread) index) ≡ false
+  entry-good : (thread index : ℕ) → index < leftOf left thread →
+      isBadEntry (entryKind (storedLog (storedLogs image) thread) index)
+      (entryPlace (storedLog (storedLogs image) thread) index)
+      (entryValue (storedLog (storedLogs image) thread) index) ≡ false
   entry-good thread index isLeft =
       let number = logAt (machine .logs) thread .head .0 + index in
       let made = made-at thread index isLeft in
       rw (kind-at thread index isLeft, place-at thread index isLeft, value-at thread index isLeft)
-      (count-good {thread = thread} {number = number} (record { made = made; says = refl }) (world .times .formed thread number made))
+      (count-good {thread = thread} {number = number} (record { made = made; says = refl })
+      (machineHolds .times .formed thread number made))
 
   -- 23 is never given: present entries are the machine's
   pub entries-good : someBelow threadCount (λ thread. hasBadEntry (storedLog (storedLogs image) thread)) ≡ false
@@ -324,9 +369,12 @@ module _ {start : Beginning} {machine : Machine} {history : List Fed} (whole : W
       none-someBelow threadCount (λ thread. hasBadEntry (storedLog (storedLogs image) thread)) (λ thread inRange.
       none-someBelow
       (presentIn (storedLog (storedLogs image) thread))
-      (λ index. isBadEntry (entryKind (storedLog (storedLogs image) thread) index) (entryPlace (storedLog (storedLogs image) thread) index) (entryValue (storedLog (storedLogs image) thread) index))
+      (λ index. isBadEntry (entryKind (storedLog (storedLogs image) thread) index)
+      (entryPlace (storedLog (storedLogs image) thread) index)
+      (entryValue (storedLog (storedLogs image) thread) index))
       (λ index below.
-      let same : presentIn (storedLog (storedLogs image) thread) ≡ leftOf left thread = ap presentIn (stored-is thread inRange) ∙ sym (left-is thread inRange) in
+      let same : presentIn (storedLog (storedLogs image) thread) ≡ leftOf left thread =
+      ap presentIn (stored-is thread inRange) ∙ sym (left-is thread inRange) in
       entry-good thread index (omega (arith, same, below))))
 
   -- the cells wanted
@@ -341,15 +389,16 @@ module _ {start : Beginning} {machine : Machine} {history : List Fed} (whole : W
       let same = book-start (emptyBook (start .cells)) history in
       book-cell
       (bookOf start history)
-      (world .prunes)
-      (whole .regions)
-      (world .cells)
-      (whole .writes)
+      (machineHolds .prunes)
+      (runHolds .regions)
+      (machineHolds .cells)
+      (runHolds .writes)
       cell
       (rw same (rw startLength inRange))
       (rw same refl)
 
-  settled-cell : (cell : ℕ) → cell < 128 → Untouched (storedLogs image) left (undoStart image .cells) final cell ⊎ Oldest (storedLogs image) left final cell
+  settled-cell : (cell : ℕ) → cell < 128 →
+      Untouched (storedLogs image) left (undoStart image .cells) final cell ⊎ Oldest (storedLogs image) left final cell
   unfolding undoStart
   settled-cell cell inRange =
       ⊎-elim
@@ -372,21 +421,26 @@ module _ {start : Beginning} {machine : Machine} {history : List Fed} (whole : W
             let leads = oldest .leads (remains-store remains) (omega arith) in
             let same : head + later - head ≡ later = omega arith in
             subst
-            (λ (index : ℕ). Below (storedLogs image) left (oldest .thread) (oldest .number - logAt (machine .logs) (oldest .thread) .head .0) other index)
+            (λ (index : ℕ).
+            Below (storedLogs image) left (oldest .thread) (oldest .number - logAt (machine .logs) (oldest .thread) .head .0) other index)
             same
             (leads-below leads (oldest .live) (omega arith));
       }))
-      (undo-cell (world .locks) (world .prunes) end durable-present (world .cells) cell)
+      (undo-cell (machineHolds .locks) (machineHolds .prunes) end durable-present (machineHolds .cells) cell)
 
   pub undoable : Undoable (storedLogs image) left (undoStart image .cells) final
   unfolding undoStart
   undoable = record {
     threads = left-length;
     few = λ thread inRange. rw (left-is thread inRange) (presents thread inRange .presentMost);
-    cellsLength = ap length (reads .cellsAre) ∙ world .cacheSized .persisted-long;
+    cellsLength = ap length (reads .cellsAre) ∙ machineHolds .cacheSized .persisted-long;
     finalLength = final-length;
     time = λ thread index. ghost .time thread (logAt (machine .logs) thread .head .0 + index);
-    olderFirst = λ thread first second less isLeft. world .times .later thread (logAt (machine .logs) thread .head .0 + first) (logAt (machine .logs) thread .head .0 + second) (made-at thread first (omega arith)) (made-at thread second isLeft) (omega arith);
-    handedFirst = λ giver given taker taken hands. world .locks .inTime (remains-release (hands .release)) (remains-acquire (hands .acquire)) (hands .larger);
+    olderFirst = λ thread first second less isLeft.
+        machineHolds .times .later thread (logAt (machine .logs) thread .head .0 + first)
+        (logAt (machine .logs) thread .head .0 + second) (made-at thread first (omega arith))
+        (made-at thread second isLeft) (omega arith);
+    handedFirst = λ giver given taker taken hands.
+        machineHolds .locks .inTime (remains-release (hands .release)) (remains-acquire (hands .acquire)) (hands .larger);
     settled = settled-cell;
   }

@@ -33,20 +33,29 @@ pub record RegionsHold (entries : Entries) (regions : List Region) (home : ℕ �
   pub inRange : {thread number : ℕ} → Made entries thread number → home thread number < length regions
   pub owner : {thread number : ℕ} → Made entries thread number → regionAt regions (home thread number) .thread ≡ thread
   -- a region is committed when its entries are pruned
-  pub committed : {thread number : ℕ} → Made entries thread number → isCommittedAt regions (home thread number) ≡ ltb number (entries .head thread)
+  pub committed : {thread number : ℕ} → Made entries thread number →
+      isCommittedAt regions (home thread number) ≡ ltb number (entries .head thread)
   -- a thread's open region is that of its last entry, which is no RELEASE and not pruned
-  pub openLast : {thread place : ℕ} → place < length regions → regionAt regions place .thread ≡ thread → regionAt regions place .isOpen ≡ true → (number : ℕ) × Unended entries thread number × (home thread number ≡ place)
+  pub openLast : {thread place : ℕ} → place < length regions → regionAt regions place .thread ≡ thread →
+      regionAt regions place .isOpen ≡ true →
+      (number : ℕ) × Unended entries thread number × (home thread number ≡ place)
   pub lastOpen : {thread number : ℕ} → Unended entries thread number → regionAt regions (home thread number) .isOpen ≡ true
   pub lastLive : {thread number : ℕ} → Unended entries thread number → entries .head thread ≤ number
   -- a thread's entries stand in its regions in order, in the next one after a boundary and else in the same one
-  pub grows : {thread number later : ℕ} → Made entries thread number → Made entries thread later → number ≤ later → home thread number ≤ home thread later
-  pub same : {thread number : ℕ} → Made entries thread number → Made entries thread (suc number) → isRelease (entries .event thread number) ≡ false → isAcquire (entries .event thread (suc number)) ≡ false → home thread number ≡ home thread (suc number)
-  pub next : {thread number : ℕ} → Made entries thread number → Made entries thread (suc number) → Boundary entries thread number → home thread number < home thread (suc number)
+  pub grows : {thread number later : ℕ} → Made entries thread number → Made entries thread later → number ≤ later →
+      home thread number ≤ home thread later
+  pub same : {thread number : ℕ} → Made entries thread number → Made entries thread (suc number) →
+      isRelease (entries .event thread number) ≡ false → isAcquire (entries .event thread (suc number)) ≡ false →
+      home thread number ≡ home thread (suc number)
+  pub next : {thread number : ℕ} → Made entries thread number → Made entries thread (suc number) →
+      Boundary entries thread number → home thread number < home thread (suc number)
   -- no region is empty
-  pub inhabited : {thread place : ℕ} → place < length regions → regionAt regions place .thread ≡ thread → (number : ℕ) × Made entries thread number × (home thread number ≡ place)
+  pub inhabited : {thread place : ℕ} → place < length regions → regionAt regions place .thread ≡ thread →
+      (number : ℕ) × Made entries thread number × (home thread number ≡ place)
 
 -- at the start there are no regions and no entries
-pub regions-start : {entries : Entries} {home : ℕ → ℕ → ℕ} → ((thread : ℕ) → entries .next thread ≤ suc (entries .before thread)) → RegionsHold entries [] home
+pub regions-start : {entries : Entries} {home : ℕ → ℕ → ℕ} →
+    ((thread : ℕ) → entries .next thread ≤ suc (entries .before thread)) → RegionsHold entries [] home
 regions-start {entries} {home} fresh = record {
   inRange = λ made. nothing made;
   owner = λ made. nothing made;
@@ -64,14 +73,16 @@ regions-start {entries} {home} fresh = record {
     nothing {thread} made = let bound = fresh thread in absurd (omega arith)
 
 -- a thread that makes no entry has the same last one
-pub unended-was : {old new : Entries} {now thread number : ℕ} → Grows old new now → new .next thread ≡ old .next thread → Made old thread number → Unended new thread number → Unended old thread number
+pub unended-was : {old new : Entries} {now thread number : ℕ} → Grows old new now →
+    new .next thread ≡ old .next thread → Made old thread number → Unended new thread number → Unended old thread number
 unended-was {thread} {number} grows same made last = record {
   made = made;
   isLast = last .isLast ∙ same;
   noRelease = sym (ap isRelease (grows .saysSame thread number made)) ∙ last .noRelease;
 }
 
-pub unended-still : {old new : Entries} {now thread number : ℕ} → Grows old new now → new .next thread ≡ old .next thread → Unended old thread number → Unended new thread number
+pub unended-still : {old new : Entries} {now thread number : ℕ} → Grows old new now →
+    new .next thread ≡ old .next thread → Unended old thread number → Unended new thread number
 unended-still {thread} {number} grows same last = record {
   made = grows .still thread number (last .made);
   isLast = last .isLast ∙ sym same;
@@ -79,7 +90,8 @@ unended-still {thread} {number} grows same last = record {
 }
 
 -- a boundary between two entries that were there
-pub boundary-was : {old new : Entries} {now thread number : ℕ} → Grows old new now → Made old thread number → Made old thread (suc number) → Boundary new thread number → Boundary old thread number
+pub boundary-was : {old new : Entries} {now thread number : ℕ} → Grows old new now → Made old thread number →
+    Made old thread (suc number) → Boundary new thread number → Boundary old thread number
 boundary-was {thread} {number} grows made madeNext =
     ⊎-elim
     (λ isEnd. inl (sym (ap isRelease (grows .saysSame thread number made)) ∙ isEnd))
@@ -92,13 +104,18 @@ pub record SameRegions (regions after : List Region) : Type 0 where
   pub openSame : (place : ℕ) → regionAt after place .isOpen ≡ regionAt regions place .isOpen
 
 -- no entry more: what is committed and what is pruned change together
-pub regions-recommit : {old new : Entries} {now : ℕ} {regions after : List Region} {home : ℕ → ℕ → ℕ} → Keeps old new now → SameRegions regions after → ((thread number : ℕ) → Made old thread number → isCommittedAt after (home thread number) ≡ ltb number (new .head thread)) → ((thread number : ℕ) → Unended old thread number → new .head thread ≤ number) → RegionsHold old regions home → RegionsHold new after home
+pub regions-recommit : {old new : Entries} {now : ℕ} {regions after : List Region} {home : ℕ → ℕ → ℕ} →
+    Keeps old new now → SameRegions regions after →
+    ((thread number : ℕ) → Made old thread number → isCommittedAt after (home thread number) ≡ ltb number (new .head thread)) →
+    ((thread number : ℕ) → Unended old thread number → new .head thread ≤ number) → RegionsHold old regions home →
+    RegionsHold new after home
 regions-recommit {old} {new} {now} {regions} {after} {home} keeps alike isCommitted isLive holds = record {
   inRange = λ made. rw (alike .lengthSame) (holds .inRange (made-kept keeps made));
   owner = λ {thread} {number} made. alike .threadSame (home thread number) ∙ holds .owner (made-kept keeps made);
   committed = λ {thread} {number} made. isCommitted thread number (made-kept keeps made);
   openLast = λ {thread} {place} under isOwner isOpen.
-      let found = holds .openLast (rw (alike .lengthSame) at under) (sym (alike .threadSame place) ∙ isOwner) (sym (alike .openSame place) ∙ isOpen) in
+      let found =
+      holds .openLast (rw (alike .lengthSame) at under) (sym (alike .threadSame place) ∙ isOwner) (sym (alike .openSame place) ∙ isOpen) in
       (found .0, unended-still (keeps .grows) (keeps .nextSame thread) (found .1), found .2);
   lastOpen = λ {thread} {number} last. alike .openSame (home thread number) ∙ holds .lastOpen (last-was last);
   lastLive = λ {thread} {number} last. isLive thread number (last-was last);
@@ -124,7 +141,8 @@ regions-recommit {old} {new} {now} {regions} {after} {home} keeps alike isCommit
     last-was {thread} last = unended-was (keeps .grows) (keeps .nextSame thread) (made-kept keeps (last .made)) last
 
 -- no entry more, and the same heads
-pub regions-keep : {old new : Entries} {now : ℕ} {regions : List Region} {home : ℕ → ℕ → ℕ} → Keeps old new now → ((thread : ℕ) → new .head thread ≡ old .head thread) → RegionsHold old regions home → RegionsHold new regions home
+pub regions-keep : {old new : Entries} {now : ℕ} {regions : List Region} {home : ℕ → ℕ → ℕ} → Keeps old new now →
+    ((thread : ℕ) → new .head thread ≡ old .head thread) → RegionsHold old regions home → RegionsHold new regions home
 regions-keep keeps heads holds =
     regions-recommit
     keeps
@@ -134,14 +152,17 @@ regions-keep keeps heads holds =
     holds
 
 -- the entry's region is the first open one of its thread
-open-region : {entries : Entries} {regions : List Region} {home : ℕ → ℕ → ℕ} {thread number : ℕ} → RegionsHold entries regions home → Unended entries thread number → First (isOpenOf thread) regions (home thread number)
+open-region : {entries : Entries} {regions : List Region} {home : ℕ → ℕ → ℕ} {thread number : ℕ} →
+    RegionsHold entries regions home → Unended entries thread number →
+    First (isOpenOf thread) regions (home thread number)
 open-region {entries} {regions} {home} {thread} {number} holds last = record {
   inRange = holds .inRange (last .made);
   holds = test-holds (holds .owner (last .made)) (holds .lastOpen last);
   before = λ earlier under. test-fails (nothing-before earlier under);
 }
   where
-    nothing-before : (earlier : ℕ) → earlier < home thread number → regionAt regions earlier .thread ≡ thread → regionAt regions earlier .isOpen ≡ true → ⊥
+    nothing-before : (earlier : ℕ) → earlier < home thread number → regionAt regions earlier .thread ≡ thread →
+        regionAt regions earlier .isOpen ≡ true → ⊥
     nothing-before earlier under isOwner isOpen =
         let inBounds = holds .inRange (last .made) in
         let found = holds .openLast (omega arith) isOwner isOpen in
@@ -153,7 +174,8 @@ open-region {entries} {regions} {home} {thread} {number} holds last = record {
         omega arith
 
 -- a thread's last entry goes on its region, or there is no such entry
-pub unended-or-not : (entries : Entries) (thread : ℕ) → ((number : ℕ) × Unended entries thread number) ⊎ ((number : ℕ) → Unended entries thread number → ⊥)
+pub unended-or-not : (entries : Entries) (thread : ℕ) →
+    ((number : ℕ) × Unended entries thread number) ⊎ ((number : ℕ) → Unended entries thread number → ⊥)
 unended-or-not entries thread =
     by-cases
     (decLt (suc (entries .before thread)) (entries .next thread))
@@ -163,7 +185,9 @@ unended-or-not entries thread =
     let below = last .made .below in
     no-entry (omega arith)))
   where
-    by-event : (ends : Bool) → isRelease (entries .event thread (entries .next thread - 1)) ≡ ends → suc (entries .before thread) < entries .next thread → ((number : ℕ) × Unended entries thread number) ⊎ ((number : ℕ) → Unended entries thread number → ⊥)
+    by-event : (ends : Bool) → isRelease (entries .event thread (entries .next thread - 1)) ≡ ends →
+        suc (entries .before thread) < entries .next thread →
+        ((number : ℕ) × Unended entries thread number) ⊎ ((number : ℕ) → Unended entries thread number → ⊥)
     by-event true isEnd some-entry = inr (λ number last.
         let isLast = last .isLast in
         let place : entries .next thread - 1 ≡ number = omega arith in
@@ -179,7 +203,10 @@ unended-or-not entries thread =
         )
 
 -- an entry after which no region begins or ends, and that is no RELEASE, stands in the region of the last entry
-stands-together : {entries : Entries} {regions : List Region} {home : ℕ → ℕ → ℕ} {thread number : ℕ} → RegionsHold entries regions home → Made entries thread number → isRelease (entries .event thread number) ≡ false → NoBoundaryAfter entries thread number → (count : ℕ) → Made entries thread (number + count) → (home thread number ≡ home thread (number + count)) × (isRelease (entries .event thread (number + count)) ≡ false)
+stands-together : {entries : Entries} {regions : List Region} {home : ℕ → ℕ → ℕ} {thread number : ℕ} →
+    RegionsHold entries regions home → Made entries thread number → isRelease (entries .event thread number) ≡ false →
+    NoBoundaryAfter entries thread number → (count : ℕ) → Made entries thread (number + count) →
+    (home thread number ≡ home thread (number + count)) × (isRelease (entries .event thread (number + count)) ≡ false)
 stands-together {number} holds made noRelease noBoundary zero madeLater = rw (add-zero number) (refl, noRelease)
 stands-together {entries} {regions} {home} {thread} {number} holds made noRelease noBoundary (suc count) madeLater =
     let place = add-suc number count in
@@ -191,7 +218,10 @@ stands-together {entries} {regions} {home} {thread} {number} holds made noReleas
     let after = noBoundary (suc (number + count)) (omega arith) further in
     rw place (before .0 ∙ holds .same nearer further (before .1) (after .0), after .1)
 
-pub unended-current : {entries : Entries} {regions : List Region} {home : ℕ → ℕ → ℕ} {thread number : ℕ} → RegionsHold entries regions home → Made entries thread number → isRelease (entries .event thread number) ≡ false → NoBoundaryAfter entries thread number → (last : ℕ) × Unended entries thread last × (home thread number ≡ home thread last)
+pub unended-current : {entries : Entries} {regions : List Region} {home : ℕ → ℕ → ℕ} {thread number : ℕ} →
+    RegionsHold entries regions home → Made entries thread number → isRelease (entries .event thread number) ≡ false →
+    NoBoundaryAfter entries thread number →
+    (last : ℕ) × Unended entries thread last × (home thread number ≡ home thread last)
 unended-current {entries} {regions} {home} {thread} {number} holds made noRelease noBoundary =
     let since = made .since in
     let below = made .below in
@@ -222,7 +252,8 @@ module _ {entries : Entries} {home : ℕ → ℕ → ℕ} (book : Book) (holds :
   unfolding joins
   joins-store last = open-is last
 
-  pub open-current : {thread number cell content : ℕ} → Is entries thread number (Store cell content) → NoBoundaryAfter entries thread number → openOf book thread ≡ some (home thread number)
+  pub open-current : {thread number cell content : ℕ} → Is entries thread number (Store cell content) →
+      NoBoundaryAfter entries thread number → openOf book thread ≡ some (home thread number)
   open-current {thread} {number} is noBoundary =
       let found = unended-current holds (is .made) (ap isRelease (is .says)) noBoundary in
       open-is (found .1) ∙ ap some (sym (found .2))

@@ -16,8 +16,10 @@ use Rattle.undo.specs.declared.Event.the-variants.{Empty, Store, Acquire, Relea
 use Rattle.undo.specs.declared.SyncCount.{SyncCount}
 use Rattle.reference.specs.Reference.{Region, Book, endOf, feedLog, feedAcquire, feedLogRelease, joins, isCommittedAt}
 use Rattle.atomicity.proofs.Logged.{Entries, Made, Appends, made-cases, new-made}
-use Rattle.atomicity.proofs.BookLaws.{regionAt, ended-length, region-ended, ended-mine, ended-other, snoc-length, region-old, region-new, test-holds, test-fails}
-use Rattle.atomicity.proofs.Regions.{Unended, Boundary, RegionsHold, unended-was, unended-still, unended-or-not, boundary-was, open-is, open-is-none, joinedPlace, joins-log, joins-acquire, joins-release}
+use Rattle.atomicity.proofs.BookLaws.{regionAt, ended-length, region-ended, ended-mine, ended-other, snoc-length, region-old}
+use Rattle.atomicity.proofs.BookLaws.{region-new, test-holds, test-fails}
+use Rattle.atomicity.proofs.Regions.{Unended, Boundary, RegionsHold, unended-was, unended-still, unended-or-not, boundary-was}
+use Rattle.atomicity.proofs.Regions.{open-is, open-is-none, joinedPlace, joins-log, joins-acquire, joins-release}
 
 -- what an append asks and does: the entries that were there stand where they stood, and the new one at this place
 pub record AppendRegions (old new : Entries) (now thread : ℕ) (event : Event) (home after : ℕ → ℕ → ℕ) (place : ℕ) : Type 0 where
@@ -37,15 +39,23 @@ pub record JoinsAt (old : Entries) (thread : ℕ) (event : Event) (regions joine
   pub committedSame : (other : ℕ) → other < length regions → isCommittedAt joined other ≡ isCommittedAt regions other
   -- it is the thread's open region, unless the entry ends it; the other threads' open regions stay
   pub openSelf : regionAt joined place .isOpen ≡ not (isRelease event)
-  pub openOnly : (other : ℕ) → other < length joined → regionAt joined other .thread ≡ thread → regionAt joined other .isOpen ≡ true → other ≡ place
-  pub openOther : (other : ℕ) → other < length regions → (regionAt regions other .thread ≡ thread → ⊥) → regionAt joined other .isOpen ≡ regionAt regions other .isOpen
+  pub openOnly : (other : ℕ) → other < length joined → regionAt joined other .thread ≡ thread →
+      regionAt joined other .isOpen ≡ true → other ≡ place
+  pub openOther : (other : ℕ) → other < length regions → (regionAt regions other .thread ≡ thread → ⊥) →
+      regionAt joined other .isOpen ≡ regionAt regions other .isOpen
   -- it is the last entry's region, unless a region ended after that entry
   pub sameRegion : (number : ℕ) → Unended old thread number → isAcquire event ≡ false → home thread number ≡ place
-  pub nextRegion : (number : ℕ) → Made old thread number → suc number ≡ old .next thread → (isRelease (old .event thread number) ≡ true) ⊎ (isAcquire event ≡ true) → length regions ≤ place
+  pub nextRegion : (number : ℕ) → Made old thread number → suc number ≡ old .next thread →
+      (isRelease (old .event thread number) ≡ true) ⊎ (isAcquire event ≡ true) → length regions ≤ place
 
-module _ {old new : Entries} {now thread : ℕ} {event : Event} {regions joined : List Region} {home after : ℕ → ℕ → ℕ} {place : ℕ} (step : AppendRegions old new now thread event home after place) (joining : JoinsAt old thread event regions joined home place) (holds : RegionsHold old regions home) where
+module _ {old new : Entries} {now thread : ℕ} {event : Event} {regions joined : List Region} {home after : ℕ → ℕ → ℕ}
+    {place : ℕ} (step : AppendRegions old new now thread event home after place)
+    (joining : JoinsAt old thread event regions joined home place) (holds : RegionsHold old regions home) where
   -- what holds of the old entries' places and of the new one's holds of each entry's
-  by-entry : (P : ℕ → ℕ → ℕ → Type 0) → ((other number : ℕ) → Made old other number → P other number (home other number)) → P thread (old .next thread) place → {other number : ℕ} → Made new other number → P other number (after other number)
+  by-entry : (P : ℕ → ℕ → ℕ → Type 0) →
+      ((other number : ℕ) → Made old other number → P other number (home other number)) →
+      P thread (old .next thread) place → {other number : ℕ} → Made new other number →
+      P other number (after other number)
   by-entry P was is {other} {number} made =
       ⊎-elim
       (λ before. rw (step .homeKept other number before) (was other number before))
@@ -53,7 +63,10 @@ module _ {old new : Entries} {now thread : ℕ} {event : Event} {regions joined 
       (made-cases (step .appends) made)
 
   -- an unended entry is the new one or another thread's
-  by-unended : (P : ℕ → ℕ → ℕ → Type 0) → ((other number : ℕ) → (other ≡ thread → ⊥) → Unended old other number → P other number (home other number)) → (isRelease event ≡ false → P thread (old .next thread) place) → {other number : ℕ} → Unended new other number → P other number (after other number)
+  by-unended : (P : ℕ → ℕ → ℕ → Type 0) →
+      ((other number : ℕ) → (other ≡ thread → ⊥) → Unended old other number → P other number (home other number)) →
+      (isRelease event ≡ false → P thread (old .next thread) place) → {other number : ℕ} → Unended new other number →
+      P other number (after other number)
   by-unended P was is {other} {number} last =
       by-cases
       (ℕ-discrete other thread)
@@ -65,11 +78,14 @@ module _ {old new : Entries} {now thread : ℕ} {event : Event} {regions joined 
       rw (same, number-is, step .homeNew) (is (sym (ap isRelease (step .appends .saysNew)) ∙ noRelease)))
       (λ differs.
       let unchanged = step .appends .nextOther other differs in
-      let before : Made old other number = record { since = rw (step .appends .grows .beforeSame) at (last .made .since); below = rw unchanged at (last .made .below) } in
+      let before : Made old other number =
+      record { since = rw (step .appends .grows .beforeSame) at (last .made .since); below = rw unchanged at (last .made .below) } in
       rw (step .homeKept other number before) (was other number differs (unended-was (step .appends .grows) unchanged before last)))
 
   -- another thread's last entry
-  still-last : {other found : ℕ} → new .next other ≡ old .next other → (number : ℕ) × Unended old other number × (home other number ≡ found) → (number : ℕ) × Unended new other number × (after other number ≡ found)
+  still-last : {other found : ℕ} → new .next other ≡ old .next other →
+      (number : ℕ) × Unended old other number × (home other number ≡ found) →
+      (number : ℕ) × Unended new other number × (after other number ≡ found)
   still-last {other} unchanged last = (
     last .0,
     unended-still (step .appends .grows) unchanged (last .1),
@@ -86,7 +102,8 @@ module _ {old new : Entries} {now thread : ℕ} {event : Event} {regions joined 
           let under = holds .inRange made in
           omega arith
 
-      by-ends : (ends : Bool) → isRelease (old .event thread number) ≡ ends → (begins : Bool) → isAcquire event ≡ begins → home thread number ≤ place
+      by-ends : (ends : Bool) → isRelease (old .event thread number) ≡ ends → (begins : Bool) →
+          isAcquire event ≡ begins → home thread number ≤ place
       by-ends true isEnd begins isBegin = after-boundary (inl isEnd)
       by-ends false isEnd true isBegin = after-boundary (inr isBegin)
       by-ends false isEnd false isBegin =
@@ -104,7 +121,12 @@ module _ {old new : Entries} {now thread : ℕ} {event : Event} {regions joined 
       omega arith
 
   -- two entries of one thread, one after the other, were both there, or the second is the new one
-  by-neighbours : (P : ℕ → ℕ → ℕ → ℕ → Type 0) → ((other number : ℕ) → Made old other number → Made old other (suc number) → P other number (home other number) (home other (suc number))) → ((number : ℕ) → Made old thread number → suc number ≡ old .next thread → P thread number (home thread number) place) → {other number : ℕ} → Made new other number → Made new other (suc number) → P other number (after other number) (after other (suc number))
+  by-neighbours : (P : ℕ → ℕ → ℕ → ℕ → Type 0) →
+      ((other number : ℕ) → Made old other number → Made old other (suc number) →
+      P other number (home other number) (home other (suc number))) →
+      ((number : ℕ) → Made old thread number → suc number ≡ old .next thread → P thread number (home thread number) place) →
+      {other number : ℕ} → Made new other number → Made new other (suc number) →
+      P other number (after other number) (after other (suc number))
   by-neighbours P both newer {other} {number} made madeNext =
       ⊎-elim
       (λ next.
@@ -135,7 +157,8 @@ module _ {old new : Entries} {now thread : ℕ} {event : Event} {regions joined 
     committed =
         by-entry
         (λ other number at. isCommittedAt joined at ≡ ltb number (new .head other))
-        (λ other number before. joining .committedSame (home other number) (holds .inRange before) ∙ rw (step .appends .headSame other) (holds .committed before))
+        (λ other number before.
+        joining .committedSame (home other number) (holds .inRange before) ∙ rw (step .appends .headSame other) (holds .committed before))
         (joining .uncommitted ∙ rw (step .appends .headSame thread) (sym (le-ltb _ _ (step .headNext))));
     openLast = λ {thread = other} {place = found} under isOwner isOpen.
         by-cases
@@ -164,7 +187,8 @@ module _ {old new : Entries} {now thread : ℕ} {event : Event} {regions joined 
         by-unended
         (λ other number at. regionAt joined at .isOpen ≡ true)
         (λ other number differs last.
-        joining .openOther (home other number) (holds .inRange (last .made)) (λ mine. differs (sym (holds .owner (last .made)) ∙ mine)) ∙ holds .lastOpen last)
+        joining .openOther (home other number) (holds .inRange (last .made)) (λ mine. differs (sym (holds .owner (last .made)) ∙ mine)) ∙
+        holds .lastOpen last)
         (λ noRelease. joining .openSelf ∙ ap not noRelease);
     lastLive =
         by-unended
@@ -188,7 +212,8 @@ module _ {old new : Entries} {now thread : ℕ} {event : Event} {regions joined 
         (made-cases (step .appends) madeLater);
     same =
         by-neighbours
-        (λ other number at atNext. isRelease (new .event other number) ≡ false → isAcquire (new .event other (suc number)) ≡ false → at ≡ atNext)
+        (λ other number at atNext. isRelease (new .event other number) ≡ false →
+        isAcquire (new .event other (suc number)) ≡ false → at ≡ atNext)
         (λ other number made madeNext noRelease noAcquire.
         holds .same
         made
@@ -198,7 +223,12 @@ module _ {old new : Entries} {now thread : ℕ} {event : Event} {regions joined 
         (λ number made isLast noRelease noAcquire.
         joining .sameRegion
         number
-        (record { made = made; isLast = isLast; noRelease = sym (ap isRelease (step .appends .grows .saysSame thread number made)) ∙ noRelease })
+        (record {
+          made =
+              made;
+          isLast = isLast;
+          noRelease = sym (ap isRelease (step .appends .grows .saysSame thread number made)) ∙ noRelease;
+        })
         (sym (ap isAcquire (ap (new .event thread) isLast ∙ step .appends .saysNew)) ∙ noAcquire));
     next =
         by-neighbours
@@ -233,10 +263,13 @@ record Closes (thread : ℕ) (regions closed : List Region) : Type 0 where
   threadSame : (other : ℕ) → other < length regions → regionAt closed other .thread ≡ regionAt regions other .thread
   committedSame : (other : ℕ) → other < length regions → isCommittedAt closed other ≡ isCommittedAt regions other
   openNone : (other : ℕ) → other < length regions → regionAt closed other .thread ≡ thread → regionAt closed other .isOpen ≡ true → ⊥
-  openOther : (other : ℕ) → other < length regions → (regionAt regions other .thread ≡ thread → ⊥) → regionAt closed other .isOpen ≡ regionAt regions other .isOpen
+  openOther : (other : ℕ) → other < length regions → (regionAt regions other .thread ≡ thread → ⊥) →
+      regionAt closed other .isOpen ≡ regionAt regions other .isOpen
 
 -- they are so already where the last entry ended its region
-closes-ended : {entries : Entries} {regions : List Region} {home : ℕ → ℕ → ℕ} {thread : ℕ} → RegionsHold entries regions home → ((number : ℕ) → Unended entries thread number → ⊥) → Closes thread regions regions
+closes-ended : {entries : Entries} {regions : List Region} {home : ℕ → ℕ → ℕ} {thread : ℕ} →
+    RegionsHold entries regions home → ((number : ℕ) → Unended entries thread number → ⊥) →
+    Closes thread regions regions
 closes-ended holds ended = record {
   lengthSame = refl;
   threadSame = λ other under. refl;
@@ -255,7 +288,9 @@ closes-open thread regions = record {
       let ended = region-ended thread regions other under in
       let mine = sym (ap (λ (region : Region). region .thread) ended) ∙ isOwner in
       true≢false (sym isOpen ∙ (ap (λ (region : Region). region .isOpen) ended ∙ ended-mine thread (regionAt regions other) mine));
-  openOther = λ other under differs. ap (λ (region : Region). region .isOpen) (region-ended thread regions other under) ∙ ended-other thread (regionAt regions other) differs;
+  openOther = λ other under differs.
+      ap (λ (region : Region). region .isOpen) (region-ended thread regions other under) ∙
+      ended-other thread (regionAt regions other) differs;
 }
 
 -- the region that opens
@@ -263,7 +298,10 @@ abbrev opened : ℕ → Region
 opened thread = record { thread = thread; isOpen = true; isCommitted = false }
 
 -- one region more, for an entry that doesn't go on an older one and doesn't end it
-joins-another : {old : Entries} {thread : ℕ} {event : Event} {regions closed : List Region} {home : ℕ → ℕ → ℕ} → Closes thread regions closed → isRelease event ≡ false → ((number : ℕ) → Unended old thread number → isAcquire event ≡ false → ⊥) → JoinsAt old thread event regions (closed ++ (opened thread ∷ [])) home (length regions)
+joins-another : {old : Entries} {thread : ℕ} {event : Event} {regions closed : List Region} {home : ℕ → ℕ → ℕ} →
+    Closes thread regions closed → isRelease event ≡ false →
+    ((number : ℕ) → Unended old thread number → isAcquire event ≡ false → ⊥) →
+    JoinsAt old thread event regions (closed ++ (opened thread ∷ [])) home (length regions)
 joins-another {old} {thread} {event} {regions} {closed} {home} closes noRelease another = record {
   longer = omega (arith, longer);
   inRange = omega (arith, longer);
@@ -306,7 +344,9 @@ joins-another {old} {thread} {event} {regions} {closed} {home} closes noRelease 
     older other under = region-old closed (opened thread) other (rw (closes .lengthSame) under)
 
 -- the open region, for an entry that goes on it and doesn't end it
-joins-open : {old : Entries} {thread last : ℕ} {event : Event} {regions : List Region} {home : ℕ → ℕ → ℕ} → RegionsHold old regions home → Unended old thread last → isAcquire event ≡ false → isRelease event ≡ false → JoinsAt old thread event regions regions home (home thread last)
+joins-open : {old : Entries} {thread last : ℕ} {event : Event} {regions : List Region} {home : ℕ → ℕ → ℕ} →
+    RegionsHold old regions home → Unended old thread last → isAcquire event ≡ false → isRelease event ≡ false →
+    JoinsAt old thread event regions regions home (home thread last)
 joins-open {old} {thread} {last} {event} {regions} {home} holds unended noAcquire noRelease = record {
   longer = omega arith;
   inRange = holds .inRange (unended .made);
@@ -333,7 +373,10 @@ joins-open {old} {thread} {last} {event} {regions} {home} holds unended noAcquir
     one-last other = let one = other .isLast in let two = unended .isLast in omega arith
 
 -- the region that is joined, ended by a RELEASE
-joins-ending : {old : Entries} {thread place : ℕ} {event release : Event} {regions joined : List Region} {home : ℕ → ℕ → ℕ} → isAcquire event ≡ isAcquire release → isRelease release ≡ true → JoinsAt old thread event regions joined home place → JoinsAt old thread release regions (map (endOf thread) joined) home place
+joins-ending : {old : Entries} {thread place : ℕ} {event release : Event} {regions joined : List Region} {home : ℕ → ℕ → ℕ} →
+    isAcquire event ≡ isAcquire release → isRelease release ≡ true →
+    JoinsAt old thread event regions joined home place →
+    JoinsAt old thread release regions (map (endOf thread) joined) home place
 joins-ending {old} {thread} {place} {event} {release} {regions} {joined} {home} alike ends joining = record {
   longer = rw (closes .lengthSame) (joining .longer);
   inRange = rw (closes .lengthSame) (joining .inRange);
@@ -342,10 +385,13 @@ joins-ending {old} {thread} {place} {event} {release} {regions} {joined} {home} 
   uncommitted = closes .committedSame place (joining .inRange) ∙ joining .uncommitted;
   threadSame = λ other under. closes .threadSame other (within other under) ∙ joining .threadSame other under;
   committedSame = λ other under. closes .committedSame other (within other under) ∙ joining .committedSame other under;
-  openSelf = ap (λ (region : Region). region .isOpen) (region-ended thread joined place (joining .inRange)) ∙ (ended-mine thread (regionAt joined place) (joining .owner) ∙ sym (ap not ends));
+  openSelf =
+      ap (λ (region : Region). region .isOpen) (region-ended thread joined place (joining .inRange)) ∙
+      (ended-mine thread (regionAt joined place) (joining .owner) ∙ sym (ap not ends));
   openOnly = λ other under isOwner isOpen. absurd (closes .openNone other (rw (closes .lengthSame) at under) isOwner isOpen);
   openOther = λ other under differs.
-      closes .openOther other (within other under) (λ mine. differs (sym (joining .threadSame other under) ∙ mine)) ∙ joining .openOther other under differs;
+      closes .openOther other (within other under) (λ mine. differs (sym (joining .threadSame other under) ∙ mine)) ∙
+      joining .openOther other under differs;
   sameRegion = λ number last noAcquire. joining .sameRegion number last (alike ∙ noAcquire);
   nextRegion = λ number made isLast boundary.
       joining .nextRegion
@@ -362,35 +408,50 @@ joins-ending {old} {thread} {place} {event} {release} {regions} {joined} {home} 
     within other under = let longer = joining .longer in omega arith
 
 -- an entry that begins and ends nothing joins as the book says of a LOG
-joins-or-opens : {old : Entries} {thread : ℕ} {event : Event} {home : ℕ → ℕ → ℕ} (book : Book) → RegionsHold old (book .regions) home → isAcquire event ≡ false → isRelease event ≡ false → JoinsAt old thread event (book .regions) (feedLog book thread .regions) home (joinedPlace book thread)
+joins-or-opens : {old : Entries} {thread : ℕ} {event : Event} {home : ℕ → ℕ → ℕ} (book : Book) →
+    RegionsHold old (book .regions) home → isAcquire event ≡ false → isRelease event ≡ false →
+    JoinsAt old thread event (book .regions) (feedLog book thread .regions) home (joinedPlace book thread)
 joins-or-opens {old} {thread} book holds noAcquire noRelease =
     ⊎-elim
     (λ last. rw (open-is book holds (last .1)) (joins-open holds (last .1) noAcquire noRelease))
-    (λ ended. rw (open-is-none book holds {thread = thread} ended) (joins-another (closes-ended holds ended) noRelease (λ number last _. ended number last)))
+    (λ ended. rw (open-is-none book holds {thread = thread} ended)
+    (joins-another (closes-ended holds ended) noRelease (λ number last _. ended number last)))
     (unended-or-not old thread)
 
 -- a LOG joins the open region, or one more
-pub regions-log : {old new : Entries} {now thread cell content : ℕ} {home after : ℕ → ℕ → ℕ} (book : Book) → AppendRegions old new now thread (Store cell content) home after (joinedPlace book thread) → RegionsHold old (book .regions) home → RegionsHold new (feedLog book thread .regions) after
+pub regions-log : {old new : Entries} {now thread cell content : ℕ} {home after : ℕ → ℕ → ℕ} (book : Book) →
+    AppendRegions old new now thread (Store cell content) home after (joinedPlace book thread) →
+    RegionsHold old (book .regions) home → RegionsHold new (feedLog book thread .regions) after
 regions-log book step holds = regions-join step (joins-or-opens book holds refl refl) holds
 
 -- an ACQUIRE ends the open region and joins one more
-pub regions-acquire : {old new : Entries} {now thread lock : ℕ} {count : SyncCount} {home after : ℕ → ℕ → ℕ} (book : Book) → AppendRegions old new now thread (Acquire lock count) home after (length (book .regions)) → RegionsHold old (book .regions) home → RegionsHold new (feedAcquire book thread .regions) after
+pub regions-acquire : {old new : Entries} {now thread lock : ℕ} {count : SyncCount} {home after : ℕ → ℕ → ℕ} (book : Book) →
+    AppendRegions old new now thread (Acquire lock count) home after (length (book .regions)) →
+    RegionsHold old (book .regions) home → RegionsHold new (feedAcquire book thread .regions) after
 regions-acquire {thread} book step holds =
     regions-join step (joins-another (closes-open thread (book .regions)) refl (λ number last noAcquire. true≢false noAcquire)) holds
 
 -- a LOGREL joins the open region, or one more, and ends it
-pub regions-release : {old new : Entries} {now thread lock : ℕ} {count : SyncCount} {home after : ℕ → ℕ → ℕ} (book : Book) → AppendRegions old new now thread (Release lock count) home after (joinedPlace book thread) → RegionsHold old (book .regions) home → RegionsHold new (feedLogRelease book thread .regions) after
+pub regions-release : {old new : Entries} {now thread lock : ℕ} {count : SyncCount} {home after : ℕ → ℕ → ℕ} (book : Book) →
+    AppendRegions old new now thread (Release lock count) home after (joinedPlace book thread) →
+    RegionsHold old (book .regions) home → RegionsHold new (feedLogRelease book thread .regions) after
 regions-release book step holds =
     regions-join step (joins-ending refl refl (joins-or-opens {event = Empty} book holds refl refl)) holds
 
 -- and the book says that LOG (2), ACQUIRE (4) and LOGREL (5) joined the region in which the new entry stands
-pub joins-log-home : {old new : Entries} {now thread : ℕ} {event : Event} {home after : ℕ → ℕ → ℕ} (book : Book) → AppendRegions old new now thread event home after (joinedPlace book thread) → joins book 2 thread ≡ some (after thread (old .next thread))
+pub joins-log-home : {old new : Entries} {now thread : ℕ} {event : Event} {home after : ℕ → ℕ → ℕ} (book : Book) →
+    AppendRegions old new now thread event home after (joinedPlace book thread) →
+    joins book 2 thread ≡ some (after thread (old .next thread))
 joins-log-home {thread} book step = joins-log book thread ∙ ap some (sym (step .homeNew))
 
-pub joins-acquire-home : {old new : Entries} {now thread : ℕ} {event : Event} {home after : ℕ → ℕ → ℕ} (book : Book) → AppendRegions old new now thread event home after (length (book .regions)) → joins book 4 thread ≡ some (after thread (old .next thread))
+pub joins-acquire-home : {old new : Entries} {now thread : ℕ} {event : Event} {home after : ℕ → ℕ → ℕ} (book : Book) →
+    AppendRegions old new now thread event home after (length (book .regions)) →
+    joins book 4 thread ≡ some (after thread (old .next thread))
 joins-acquire-home {thread} book step = joins-acquire book thread ∙ ap some (sym (step .homeNew))
 
-pub joins-release-home : {old new : Entries} {now thread : ℕ} {event : Event} {home after : ℕ → ℕ → ℕ} (book : Book) → AppendRegions old new now thread event home after (joinedPlace book thread) → joins book 5 thread ≡ some (after thread (old .next thread))
+pub joins-release-home : {old new : Entries} {now thread : ℕ} {event : Event} {home after : ℕ → ℕ → ℕ} (book : Book) →
+    AppendRegions old new now thread event home after (joinedPlace book thread) →
+    joins book 5 thread ≡ some (after thread (old .next thread))
 joins-release-home {thread} book step = joins-release book thread ∙ ap some (sym (step .homeNew))
 
 -- the homes with one more entry's
@@ -398,11 +459,14 @@ abbrev pub withHome : (ℕ → ℕ → ℕ) → ℕ → ℕ → ℕ → ℕ → 
 withHome home thread number place other asked = cond (eqb other thread && eqb asked number) place (home other asked)
 
 -- what each append needs of them
-pub append-homes : {old new : Entries} {now thread : ℕ} {event : Event} (home : ℕ → ℕ → ℕ) (place : ℕ) → Appends old new now thread event → old .head thread ≤ old .next thread → AppendRegions old new now thread event home (withHome home thread (old .next thread) place) place
+pub append-homes : {old new : Entries} {now thread : ℕ} {event : Event} (home : ℕ → ℕ → ℕ) (place : ℕ) →
+    Appends old new now thread event → old .head thread ≤ old .next thread →
+    AppendRegions old new now thread event home (withHome home thread (old .next thread) place) place
 append-homes {old} {new} {now} {thread} home place appends headNext = record {
   appends = appends;
   headNext = headNext;
-  homeKept = λ other number made. rw (test-fails {thread = thread} {other = other} {test = eqb number (old .next thread)} (elsewhere other number made));
+  homeKept = λ other number made.
+      rw (test-fails {thread = thread} {other = other} {test = eqb number (old .next thread)} (elsewhere other number made));
   homeNew = rw (test-holds {thread = thread} {other = thread} refl (eq-eqb (old .next thread) (old .next thread) refl));
 }
   where

@@ -12,7 +12,8 @@ use borrow.Author.Tests.{lt-ltb, le-ltb, not-true}
 use Rattle.undo.specs.Regions.{isAcquire, isRelease}
 use Rattle.reference.specs.Reference.{Region, commitOldest, isCommittedAt}
 use Rattle.atomicity.proofs.Logged.{Entries, Made, Keeps}
-use Rattle.atomicity.proofs.BookLaws.{regionAt, First, test-holds, test-fails, isUncommittedOf, committedOf, commit-length, region-committed, region-uncommitted}
+use Rattle.atomicity.proofs.BookLaws.{regionAt, First, test-holds, test-fails, isUncommittedOf, committedOf, commit-length}
+use Rattle.atomicity.proofs.BookLaws.{region-committed, region-uncommitted}
 use Rattle.atomicity.proofs.Regions.{Unended, Boundary, RegionsHold, SameRegions, regions-recommit}
 
 -- what a PRUNE of a region of so many entries asks and does
@@ -24,10 +25,14 @@ pub record PruneRegions (old new : Entries) (now thread size : ℕ) : Type 0 whe
   pub headOther : (other : ℕ) → (other ≡ thread → ⊥) → new .head other ≡ old .head other
   pub within : old .head thread + size ≤ old .next thread
   -- the region has an ACQUIRE only as its first entry, and a RELEASE only as its last one
-  pub acquireFirst : (number : ℕ) → old .head thread < number → number < old .head thread + size → isAcquire (old .event thread number) ≡ false
-  pub releaseLast : (number : ℕ) → old .head thread ≤ number → suc number < old .head thread + size → isRelease (old .event thread number) ≡ false
+  pub acquireFirst : (number : ℕ) → old .head thread < number → number < old .head thread + size →
+      isAcquire (old .event thread number) ≡ false
+  pub releaseLast : (number : ℕ) → old .head thread ≤ number → suc number < old .head thread + size →
+      isRelease (old .event thread number) ≡ false
   -- another region begins after it, and it is finished
-  pub ends : old .head thread + size < old .next thread → (isAcquire (old .event thread (old .head thread + size)) ≡ true) ⊎ (isRelease (old .event thread (old .head thread + size - 1)) ≡ true)
+  pub ends : old .head thread + size < old .next thread →
+      (isAcquire (old .event thread (old .head thread + size)) ≡ true) ⊎
+      (isRelease (old .event thread (old .head thread + size - 1)) ≡ true)
   pub finished : (old .head thread + size < old .next thread) ⊎ (isRelease (old .event thread (old .head thread + size - 1)) ≡ true)
 
 module _ {entries : Entries} {regions : List Region} {home : ℕ → ℕ → ℕ} {thread : ℕ} (holds : RegionsHold entries regions home) where
@@ -73,7 +78,8 @@ module _ {entries : Entries} {regions : List Region} {home : ℕ → ℕ → ℕ
           let onward = holds .grows made (found .1) (omega (arith, notPruned)) in
           omega arith)
 
-module _ {old new : Entries} {now thread size : ℕ} {regions : List Region} {home : ℕ → ℕ → ℕ} (step : PruneRegions old new now thread size) (holds : RegionsHold old regions home) where
+module _ {old new : Entries} {now thread size : ℕ} {regions : List Region} {home : ℕ → ℕ → ℕ}
+    (step : PruneRegions old new now thread size) (holds : RegionsHold old regions home) where
   -- the first entry of the pruned region
   head-made : Made old thread (old .head thread)
   head-made =
@@ -115,13 +121,15 @@ module _ {old new : Entries} {now thread size : ℕ} {regions : List Region} {ho
   oldest-region = oldest-uncommitted holds head-made
 
   -- nothing but what is committed changes
-  same-part : {A : Type 0} (part : Region → A) → ((region : Region) → part (committedOf region) ≡ part region) → (place : ℕ) → part (regionAt (commitOldest thread regions) place) ≡ part (regionAt regions place)
+  same-part : {A : Type 0} (part : Region → A) → ((region : Region) → part (committedOf region) ≡ part region) →
+      (place : ℕ) → part (regionAt (commitOldest thread regions) place) ≡ part (regionAt regions place)
   same-part part kept place =
       by-cases
       (ℕ-discrete place (home thread (old .head thread)))
       (λ same.
       rw same
-      (ap part (region-committed thread regions (home thread (old .head thread)) oldest-region) ∙ kept (regionAt regions (home thread (old .head thread)))))
+      (ap part (region-committed thread regions (home thread (old .head thread)) oldest-region) ∙
+      kept (regionAt regions (home thread (old .head thread)))))
       (λ differs. ap part (region-uncommitted thread regions (home thread (old .head thread)) place oldest-region differs))
 
   same-regions : SameRegions regions (commitOldest thread regions)
@@ -132,20 +140,26 @@ module _ {old new : Entries} {now thread size : ℕ} {regions : List Region} {ho
   }
 
   -- an entry that stands elsewhere
-  elsewhere : {other number : ℕ} → Made old other number → (home other number ≡ home thread (old .head thread) → ⊥) → isCommittedAt (commitOldest thread regions) (home other number) ≡ ltb number (old .head other)
+  elsewhere : {other number : ℕ} → Made old other number → (home other number ≡ home thread (old .head thread) → ⊥) →
+      isCommittedAt (commitOldest thread regions) (home other number) ≡ ltb number (old .head other)
   elsewhere {other} {number} made differs =
-      ap (λ (region : Region). region .isCommitted) (region-uncommitted thread regions (home thread (old .head thread)) (home other number) oldest-region differs) ∙ holds .committed made
+      ap (λ (region : Region). region .isCommitted)
+      (region-uncommitted thread regions (home thread (old .head thread)) (home other number) oldest-region differs) ∙
+      holds .committed made
 
-  recommitted : (other number : ℕ) → Made old other number → isCommittedAt (commitOldest thread regions) (home other number) ≡ ltb number (new .head other)
+  recommitted : (other number : ℕ) → Made old other number →
+      isCommittedAt (commitOldest thread regions) (home other number) ≡ ltb number (new .head other)
   recommitted other number made =
       by-cases
       (ℕ-discrete other thread)
       (λ same. rw same (mine number (rw same at made)))
       (λ differs.
       rw (step .headOther other differs)
-      (elsewhere made (λ equal. differs (sym (holds .owner made) ∙ (ap (λ (place : ℕ). regionAt regions place .thread) equal ∙ holds .owner head-made)))))
+      (elsewhere made
+      (λ equal. differs (sym (holds .owner made) ∙ (ap (λ (place : ℕ). regionAt regions place .thread) equal ∙ holds .owner head-made)))))
     where
-      mine : (number : ℕ) → Made old thread number → isCommittedAt (commitOldest thread regions) (home thread number) ≡ ltb number (new .head thread)
+      mine : (number : ℕ) → Made old thread number →
+          isCommittedAt (commitOldest thread regions) (home thread number) ≡ ltb number (new .head thread)
       mine number made =
           rw (step .headMore)
           (by-cases
@@ -164,7 +178,8 @@ module _ {old new : Entries} {now thread size : ℕ} {regions : List Region} {ho
           (λ notBelow.
           let after = outside (omega (arith, notBelow)) made in
           elsewhere made (λ equal. omega arith) ∙
-          (le-ltb number (old .head thread) (omega (arith, notPruned)) ∙ sym (le-ltb number (old .head thread + size) (omega (arith, notBelow)))))))
+          (le-ltb number (old .head thread) (omega (arith, notPruned)) ∙
+          sym (le-ltb number (old .head thread + size) (omega (arith, notBelow)))))))
 
   -- what isn't ended is not pruned
   still-live : (other number : ℕ) → Unended old other number → new .head other ≤ number

@@ -11,6 +11,7 @@ use mathlib.Core.Logic.{by-cases}
 use mathlib.Core.Option.{Option, none, some}
 use lib.ListN.{length, take}
 use lib.Seq.{take-append-le, take-append-seam}
+use Rattle.sizes.specs.Sizes.{threadCount}
 use Rattle.answer.proofs.RefusalLaws.{AllFail}
 use Rattle.log.specs.Entries.{flushLogOf, fenceLogOf, evictSlotOf}
 use Rattle.undo.specs.Events.{endReleaseOf}
@@ -18,10 +19,12 @@ use Rattle.ring.specs.Ring.{flushedTail, fencedTail, releasedTail}
 use Rattle.undo.specs.Regions.{isRelease}
 use Rattle.undo.specs.declared.Event.{Event}
 use Rattle.accesses.specs.Clocks.{loadedOf, loggedCellOf}
-use Rattle.machine.specs.Effects.{loadEffect, logEffect, storeEffect, acquireEffect, logReleaseEffect, releaseEffect, flushEffect, flushLogEffect, fenceEffect, evictEffect, evictLogEffect, effect}
+use Rattle.machine.specs.Effects.{loadEffect, logEffect, storeEffect, acquireEffect, logReleaseEffect, releaseEffect, flushEffect}
+use Rattle.machine.specs.Effects.{flushLogEffect, fenceEffect, evictEffect, evictLogEffect, effect}
 use Rattle.kinds.specs.Kinds.{Kind, LOAD, LOG, STORE, ACQUIRE, LOGREL, RELEASE, FLUSH, FLUSHLOG, FENCE, PRUNE, EVICT, EVICTLOG}
 use Rattle.machine.specs.declared.Machine.{Machine}
-use Rattle.machine.proofs.AcceptedMeans.{log-asked, acquire-asked, log-release-asked, release-asked, flush-log-asked, fence-asked, evict-log-asked, store-asked, prune-asked}
+use Rattle.machine.proofs.AcceptedMeans.{log-asked, acquire-asked, log-release-asked, release-asked, flush-log-asked, fence-asked}
+use Rattle.machine.proofs.AcceptedMeans.{evict-log-asked, store-asked, prune-asked}
 use Rattle.machine.proofs.StepLaws.{testsOf}
 use Rattle.reference.specs.Reference.{Book, emptyBook, openUnless, feed, feedAccepted, joins, openOf}
 use Rattle.atomicity.specs.History.{Fed, stepAt, fedBook, Joined}
@@ -32,15 +35,19 @@ use Rattle.atomicity.proofs.HistoryRuns.{tookStep, kindNumber}
 use Rattle.atomicity.proofs.Ordered.{andThen, accepted-inside}
 use Rattle.atomicity.proofs.Places.{madeBy, lastOf, makes, made-new, step-before, step-new, last-was, length-then}
 use Rattle.atomicity.proofs.Regions.{RegionsHold, regions-keep, joinedPlace, open-current, unended-current, joins-store}
-use Rattle.atomicity.proofs.RegionsAppend.{AppendRegions, append-homes, withHome, regions-log, regions-acquire, regions-release, joins-log-home, joins-acquire-home, joins-release-home}
+use Rattle.atomicity.proofs.RegionsAppend.{AppendRegions, append-homes, withHome, regions-log, regions-acquire, regions-release}
+use Rattle.atomicity.proofs.RegionsAppend.{joins-log-home, joins-acquire-home, joins-release-home}
 use Rattle.atomicity.proofs.RegionsPrune.{regions-prune}
 use Rattle.atomicity.proofs.StepsFollow.{effect-follows, refused-follows}
 use Rattle.atomicity.proofs.LogViews.{logAt}
-use Rattle.atomicity.proofs.MachineInvariant.{Beginning, Ghost, World, entriesOf, contentsOf}
-use Rattle.atomicity.proofs.QuietStepsKeep.{EntriesStay, log-stays, logs-stay, world-refused, world-load, world-flush, world-evict, world-flush-log, world-fence, world-evict-log, stored-entry, stores-cell, storedVersions, world-store}
-use Rattle.atomicity.proofs.AppendsKeep.{appends, acquireEntry, releaseEntry, storeEntry, ghostThen, world-acquire, world-log-release, log-appends, logs-cell, loggedVersions, world-log}
-use Rattle.atomicity.proofs.ReleaseKeeps.{world-release}
-use Rattle.atomicity.proofs.PruneKeeps.{prune-regions, prune-logs, world-prune}
+use Rattle.atomicity.proofs.MachineInvariant.{Beginning, Ghost, MachineInvariant, entriesOf, contentsOf}
+use Rattle.atomicity.proofs.QuietStepsKeep.{EntriesStay, log-stays, logs-stay, machine-refused, machine-load, machine-flush}
+use Rattle.atomicity.proofs.QuietStepsKeep.{machine-evict, machine-flush-log, machine-fence, machine-evict-log, stored-entry}
+use Rattle.atomicity.proofs.QuietStepsKeep.{stores-cell, storedVersions, machine-store}
+use Rattle.atomicity.proofs.AppendsKeep.{appends, acquireEntry, releaseEntry, storeEntry, ghostThen, machine-acquire}
+use Rattle.atomicity.proofs.AppendsKeep.{machine-log-release, log-appends, logs-cell, loggedVersions, machine-log}
+use Rattle.atomicity.proofs.ReleaseKeeps.{machine-release}
+use Rattle.atomicity.proofs.PruneKeeps.{prune-regions, prune-logs, machine-prune}
 use Rattle.atomicity.proofs.Writes.{WritesHold, writes-keep, writes-log, writes-store}
 
 -- the reference model that was fed a history
@@ -48,19 +55,24 @@ abbrev pub bookOf : Beginning → List Fed → Book
 bookOf start history = fedBook (emptyBook (start .cells)) history
 
 -- fed one step more
-pub book-then : (book : Book) (history : List Fed) (fed : Fed) → fedBook book (andThen history fed) ≡ feed (fedBook book history) (fed .kind) (fed .thread) (fed .place) (fed .value) (fed .accepted)
+pub book-then : (book : Book) (history : List Fed) (fed : Fed) →
+    fedBook book (andThen history fed) ≡ feed (fedBook book history) (fed .kind) (fed .thread) (fed .place) (fed .value) (fed .accepted)
 unfolding fedBook
 book-then book [] fed = refl
-book-then book (first ∷ history) fed = book-then (feed book (first .kind) (first .thread) (first .place) (first .value) (first .accepted)) history fed
+book-then book (first ∷ history) fed =
+    book-then (feed book (first .kind) (first .thread) (first .place) (first .value) (first .accepted)) history fed
 
 -- each step that joined a region stands at an entry of that region
 abbrev pub JoinsHold : Beginning → List Fed → Entries → (ℕ → ℕ → ℕ) → Type 0
-JoinsHold start history entries home = (place region : ℕ) → Joined (start .cells) history place region → Made entries (stepAt history place .thread) (lastOf (entries .before) history place) × (home (stepAt history place .thread) (lastOf (entries .before) history place) ≡ region)
+JoinsHold start history entries home =
+    (place region : ℕ) → Joined (start .cells) history place region →
+    Made entries (stepAt history place .thread) (lastOf (entries .before) history place) ×
+    (home (stepAt history place .thread) (lastOf (entries .before) history place) ≡ region)
 
-pub record Whole (start : Beginning) (machine : Machine) (history : List Fed) : Type 0 where
+pub record RunInvariant (start : Beginning) (machine : Machine) (history : List Fed) : Type 0 where
   pub ghost : Ghost
   pub home : ℕ → ℕ → ℕ
-  pub world : World start machine history ghost
+  pub machineHolds : MachineInvariant start machine history ghost
   pub follows : Follows machine history
   pub regions : RegionsHold (entriesOf start machine ghost) (bookOf start history .regions) home
   pub writes : WritesHold home (contentsOf start (machine .cache)) (ghost .versions) (bookOf start history .writes)
@@ -68,11 +80,17 @@ pub record Whole (start : Beginning) (machine : Machine) (history : List Fed) : 
 
 -- the region that the step itself joins
 abbrev pub JoinsNew : Beginning → List Fed → Fed → Entries → (ℕ → ℕ → ℕ) → Type 0
-JoinsNew start history fed entries home = (region : ℕ) → fed .accepted ≡ true → joins (bookOf start history) (fed .kind) (fed .thread) ≡ some region → Made entries (fed .thread) (madeBy (entries .before) (andThen history fed) (fed .thread) (suc (length history))) × (home (fed .thread) (madeBy (entries .before) (andThen history fed) (fed .thread) (suc (length history))) ≡ region)
+JoinsNew start history fed entries home =
+    (region : ℕ) → fed .accepted ≡ true → joins (bookOf start history) (fed .kind) (fed .thread) ≡ some region →
+    Made entries (fed .thread) (madeBy (entries .before) (andThen history fed) (fed .thread) (suc (length history))) ×
+    (home (fed .thread) (madeBy (entries .before) (andThen history fed) (fed .thread) (suc (length history))) ≡ region)
 
 module _ (start : Beginning) {history : List Fed} {old new : Entries} (home after : ℕ → ℕ → ℕ) (fed : Fed) where
   -- the steps before join what they joined, and the new one joins its own
-  pub joins-then : Grows old new (length history) → ((thread number : ℕ) → Made old thread number → after thread number ≡ home thread number) → JoinsHold start history old home → JoinsNew start history fed new after → JoinsHold start (andThen history fed) new after
+  pub joins-then : Grows old new (length history) →
+      ((thread number : ℕ) → Made old thread number → after thread number ≡ home thread number) →
+      JoinsHold start history old home → JoinsNew start history fed new after →
+      JoinsHold start (andThen history fed) new after
   joins-then grows homes holds joinsNew place region joined =
       by-cases
       (decLt place (length history))
@@ -84,7 +102,10 @@ module _ (start : Beginning) {history : List Fed} {old new : Entries} (home afte
         joinedRegion = rw (taken, same) at (joined .joinedRegion);
       } in
       let found = holds place region was in
-      rw (last-was history fed grows before, same) (grows .still (stepAt history place .thread) (lastOf (old .before) history place) (found .0), homes (stepAt history place .thread) (lastOf (old .before) history place) (found .0) ∙ found .1))
+      rw (last-was history fed grows before, same) (
+        grows .still (stepAt history place .thread) (lastOf (old .before) history place) (found .0),
+        homes (stepAt history place .thread) (lastOf (old .before) history place) (found .0) ∙ found .1,
+      ))
       (λ notBefore.
       by-cases
       (ℕ-discrete place (length history))
@@ -109,35 +130,41 @@ open-writes (some place) book thread = refl
 never-joins : {A : Type 0} {found : Option ℕ} {region : ℕ} → found ≡ none → found ≡ some region → A
 never-joins isNone isSome = let never : _≡_ {A = ℕ} 0 1 = cc in absurd (omega arith)
 
-module _ {start : Beginning} {machine : Machine} {history : List Fed} (whole : Whole start machine history) where
+module _ {start : Beginning} {machine : Machine} {history : List Fed} (runHolds : RunInvariant start machine history) where
   abbrev book : Book
   book = bookOf start history
 
   abbrev ghost : Ghost
-  ghost = whole .ghost
+  ghost = runHolds .ghost
 
   -- a step that makes no entry, moves no head, and that the reference model passes over
-  whole-quiet : (after : Machine) (fed : Fed) → World start after (andThen history fed) ghost → Follows after (andThen history fed) → EntriesStay start machine after ghost (length history) → feed book (fed .kind) (fed .thread) (fed .place) (fed .value) (fed .accepted) ≡ book → (fed .accepted ≡ true → joins book (fed .kind) (fed .thread) ≡ none) → Whole start after (andThen history fed)
-  whole-quiet after fed world follows stay passes joinsNone =
+  run-quiet : (after : Machine) (fed : Fed) → MachineInvariant start after (andThen history fed) ghost →
+      Follows after (andThen history fed) → EntriesStay start machine after ghost (length history) →
+      feed book (fed .kind) (fed .thread) (fed .place) (fed .value) (fed .accepted) ≡ book →
+      (fed .accepted ≡ true → joins book (fed .kind) (fed .thread) ≡ none) →
+      RunInvariant start after (andThen history fed)
+  run-quiet after fed machineHolds follows stay passes joinsNone =
       let same = book-then (emptyBook (start .cells)) history fed ∙ passes in
       record {
         ghost = ghost;
-        home = whole .home;
-        world = world;
+        home = runHolds .home;
+        machineHolds = machineHolds;
         follows = follows;
-        regions = rw same (regions-keep (stay .keeps) (stay .headSame) (whole .regions));
-        writes = rw same (record { tracks = whole .writes .tracks });
-        joined = joins-then start (whole .home) (whole .home) fed (stay .keeps .grows) (λ thread number made. refl) (whole .joined) (λ region isAccepted isSome. never-joins (joinsNone isAccepted) isSome);
+        regions = rw same (regions-keep (stay .keeps) (stay .headSame) (runHolds .regions));
+        writes = rw same (record { tracks = runHolds .writes .tracks });
+        joined =
+            joins-then start (runHolds .home) (runHolds .home) fed (stay .keeps .grows) (λ thread number made. refl)
+            (runHolds .joined) (λ region isAccepted isSome. never-joins (joinsNone isAccepted) isSome);
       }
 
-  pub whole-refused : (fed : Fed) → fed .accepted ≡ false → Whole start machine (andThen history fed)
+  pub run-refused : (fed : Fed) → fed .accepted ≡ false → RunInvariant start machine (andThen history fed)
   unfolding feed
-  whole-refused fed isRefused =
-      whole-quiet
+  run-refused fed isRefused =
+      run-quiet
       machine
       fed
-      (world-refused (whole .world) fed isRefused)
-      (refused-follows machine history (whole .follows) fed isRefused)
+      (machine-refused (runHolds .machineHolds) fed isRefused)
+      (refused-follows machine history (runHolds .follows) fed isRefused)
       (logs-stay start machine machine ghost (length history) refl)
       (rw isRefused)
       (λ isAccepted. absurd (true≢false (sym isAccepted ∙ isRefused)))
@@ -145,154 +172,164 @@ module _ {start : Beginning} {machine : Machine} {history : List Fed} (whole : W
   module _ (thread place value : ℕ) where
     -- what each kind of step keeps
     abbrev Kept : Kind → Type 0
-    Kept kind = AllFail (testsOf machine kind thread place value) → Whole start (effect machine kind thread place value .machine) (andThen history (tookStep kind thread place value))
+    Kept kind =
+        AllFail (testsOf machine kind thread place value) →
+        RunInvariant start (effect machine kind thread place value .machine) (andThen history (tookStep kind thread place value))
 
-    inLogs : thread < 4 → thread < length (machine .logs)
-    inLogs inRange = rw (whole .world .sized .logs) inRange
+    inLogs : thread < threadCount → thread < length (machine .logs)
+    inLogs inRange = rw (runHolds .machineHolds .sized .logs) inRange
 
-    load-whole : Kept LOAD
+    run-load : Kept LOAD
     unfolding effect loadEffect loadedOf feed feedAccepted joins
-    load-whole fails =
-        whole-quiet
+    run-load fails =
+        run-quiet
         (effect machine LOAD thread place value .machine)
         (tookStep LOAD thread place value)
-        (world-load (whole .world) thread place value fails)
-        (effect-follows machine history (whole .follows) LOAD thread place value fails)
+        (machine-load (runHolds .machineHolds) thread place value fails)
+        (effect-follows machine history (runHolds .follows) LOAD thread place value fails)
         (logs-stay start machine _ ghost (length history) refl)
         refl
         (λ isAccepted. refl)
 
-    flush-whole : Kept FLUSH
+    run-flush : Kept FLUSH
     unfolding effect flushEffect feed feedAccepted joins
-    flush-whole fails =
-        whole-quiet
+    run-flush fails =
+        run-quiet
         (effect machine FLUSH thread place value .machine)
         (tookStep FLUSH thread place value)
-        (world-flush (whole .world) thread place value fails)
-        (effect-follows machine history (whole .follows) FLUSH thread place value fails)
+        (machine-flush (runHolds .machineHolds) thread place value fails)
+        (effect-follows machine history (runHolds .follows) FLUSH thread place value fails)
         (logs-stay start machine _ ghost (length history) refl)
         refl
         (λ isAccepted. refl)
 
-    evict-whole : Kept EVICT
+    run-evict : Kept EVICT
     unfolding effect evictEffect feed feedAccepted joins
-    evict-whole fails =
-        whole-quiet
+    run-evict fails =
+        run-quiet
         (effect machine EVICT thread place value .machine)
         (tookStep EVICT thread place value)
-        (world-evict (whole .world) thread place value fails)
-        (effect-follows machine history (whole .follows) EVICT thread place value fails)
+        (machine-evict (runHolds .machineHolds) thread place value fails)
+        (effect-follows machine history (runHolds .follows) EVICT thread place value fails)
         (logs-stay start machine _ ghost (length history) refl)
         refl
         (λ isAccepted. refl)
 
-    flush-log-whole : Kept FLUSHLOG
+    run-flush-log : Kept FLUSHLOG
     unfolding effect flushLogEffect flushLogOf flushedTail feed feedAccepted joins
-    flush-log-whole fails =
-        whole-quiet
+    run-flush-log fails =
+        run-quiet
         (effect machine FLUSHLOG thread place value .machine)
         (tookStep FLUSHLOG thread place value)
-        (world-flush-log (whole .world) thread place value fails)
-        (effect-follows machine history (whole .follows) FLUSHLOG thread place value fails)
-        (log-stays start machine _ ghost (length history) thread (flushLogOf (logAt (machine .logs) thread)) refl (inLogs (flush-log-asked machine thread place value fails)) refl refl (omega arith))
+        (machine-flush-log (runHolds .machineHolds) thread place value fails)
+        (effect-follows machine history (runHolds .follows) FLUSHLOG thread place value fails)
+        (log-stays start machine _ ghost (length history) thread (flushLogOf (logAt (machine .logs) thread)) refl
+        (inLogs (flush-log-asked machine thread place value fails)) refl refl (omega arith))
         refl
         (λ isAccepted. refl)
 
-    fence-whole : Kept FENCE
+    run-fence : Kept FENCE
     unfolding effect fenceEffect fenceLogOf fencedTail feed feedAccepted joins
-    fence-whole fails =
+    run-fence fails =
         let inRange = fence-asked machine thread place value fails in
-        whole-quiet
+        run-quiet
         (effect machine FENCE thread place value .machine)
         (tookStep FENCE thread place value)
-        (world-fence (whole .world) thread place value fails)
-        (effect-follows machine history (whole .follows) FENCE thread place value fails)
-        (log-stays start machine _ ghost (length history) thread (fenceLogOf (logAt (machine .logs) thread)) refl (inLogs inRange) refl refl (whole .world .logs thread inRange .durableFlushed))
+        (machine-fence (runHolds .machineHolds) thread place value fails)
+        (effect-follows machine history (runHolds .follows) FENCE thread place value fails)
+        (log-stays start machine _ ghost (length history) thread (fenceLogOf (logAt (machine .logs) thread)) refl
+        (inLogs inRange) refl refl (runHolds .machineHolds .logs thread inRange .durableFlushed))
         refl
         (λ isAccepted. refl)
 
-    evict-log-whole : Kept EVICTLOG
+    run-evict-log : Kept EVICTLOG
     unfolding effect evictLogEffect evictSlotOf feed feedAccepted joins
-    evict-log-whole fails =
-        whole-quiet
+    run-evict-log fails =
+        run-quiet
         (effect machine EVICTLOG thread place value .machine)
         (tookStep EVICTLOG thread place value)
-        (world-evict-log (whole .world) thread place value fails)
-        (effect-follows machine history (whole .follows) EVICTLOG thread place value fails)
-        (log-stays start machine _ ghost (length history) thread (evictSlotOf (logAt (machine .logs) thread) place) refl (inLogs (evict-log-asked machine thread place value fails .inThread)) refl refl (omega arith))
+        (machine-evict-log (runHolds .machineHolds) thread place value fails)
+        (effect-follows machine history (runHolds .follows) EVICTLOG thread place value fails)
+        (log-stays start machine _ ghost (length history) thread (evictSlotOf (logAt (machine .logs) thread) place) refl
+        (inLogs (evict-log-asked machine thread place value fails .inThread)) refl refl (omega arith))
         refl
         (λ isAccepted. refl)
 
-    release-whole : Kept RELEASE
+    run-release : Kept RELEASE
     unfolding effect releaseEffect endReleaseOf releasedTail feed feedAccepted joins
-    release-whole fails =
-        whole-quiet
+    run-release fails =
+        run-quiet
         (effect machine RELEASE thread place value .machine)
         (tookStep RELEASE thread place value)
-        (world-release (whole .world) thread place value fails)
-        (effect-follows machine history (whole .follows) RELEASE thread place value fails)
-        (log-stays start machine _ ghost (length history) thread (endReleaseOf (logAt (machine .logs) thread)) refl (inLogs (release-asked machine thread place value fails .inThread)) refl refl (omega arith))
+        (machine-release (runHolds .machineHolds) thread place value fails)
+        (effect-follows machine history (runHolds .follows) RELEASE thread place value fails)
+        (log-stays start machine _ ghost (length history) thread (endReleaseOf (logAt (machine .logs) thread)) refl
+        (inLogs (release-asked machine thread place value fails .inThread)) refl refl (omega arith))
         refl
         (λ isAccepted. refl)
 
-    prune-whole : Kept PRUNE
+    run-prune : Kept PRUNE
     unfolding feed feedAccepted joins
-    prune-whole fails =
+    run-prune fails =
         let fed = tookStep PRUNE thread place value in
         let asked = prune-asked machine thread place value fails in
-        let step = prune-regions (whole .world) thread asked in
+        let step = prune-regions (runHolds .machineHolds) thread asked in
         let same = book-then (emptyBook (start .cells)) history fed in
         record {
           ghost = ghost;
-          home = whole .home;
-          world = world-prune (whole .world) thread place value fails;
-          follows = effect-follows machine history (whole .follows) PRUNE thread place value fails;
-          regions = rw (same, prune-logs machine thread place value) (regions-prune step (whole .regions));
-          writes = rw same (record { tracks = whole .writes .tracks });
+          home = runHolds .home;
+          machineHolds = machine-prune (runHolds .machineHolds) thread place value fails;
+          follows = effect-follows machine history (runHolds .follows) PRUNE thread place value fails;
+          regions = rw (same, prune-logs machine thread place value) (regions-prune step (runHolds .regions));
+          writes = rw same (record { tracks = runHolds .writes .tracks });
           joined =
               joins-then
               start
-              (whole .home)
-              (whole .home)
+              (runHolds .home)
+              (runHolds .home)
               fed
               (rw (prune-logs machine thread place value) (step .keeps .grows))
               (λ other number made. refl)
-              (whole .joined)
+              (runHolds .joined)
               (λ region isAccepted isSome. never-joins refl isSome);
         }
 
-    store-whole : Kept STORE
+    run-store : Kept STORE
     unfolding effect storeEffect feed feedAccepted joins
-    store-whole fails =
+    run-store fails =
         let fed = tookStep STORE thread place value in
         let asked = store-asked machine thread place value fails in
-        let found = stored-entry (whole .world) thread place value fails in
+        let found = stored-entry (runHolds .machineHolds) thread place value fails in
         let stay = logs-stay start machine machine ghost (length history) refl in
-        let isOpen = open-current book (whole .regions) (found .2) (found .3) in
+        let isOpen = open-current book (runHolds .regions) (found .2) (found .3) in
         let same = book-then (emptyBook (start .cells)) history fed in
         let notRelease : isRelease (ghost .event thread (found .0)) ≡ false = ap isRelease (found .2 .says) in
-        let last = unended-current (whole .regions) (found .2 .made) notRelease (found .3) in
-        let counted = whole .world .places .nextIs thread (asked .inThread) in
+        let last = unended-current (runHolds .regions) (found .2 .made) notRelease (found .3) in
+        let counted = runHolds .machineHolds .places .nextIs thread (asked .inThread) in
         let isLast = last .1 .isLast in
-        let atLast : madeBy (start .before) (andThen history fed) thread (suc (length history)) ≡ last .0 = made-new history fed (start .before) thread ∙ rw (and-false (eqb thread thread)) (omega arith) in
+        let atLast : madeBy (start .before) (andThen history fed) thread (suc (length history)) ≡ last .0 =
+        made-new history fed (start .before) thread ∙ rw (and-false (eqb thread thread)) (omega arith) in
         record {
-          ghost = storedVersions (whole .world) thread place value;
-          home = whole .home;
-          world = world-store (whole .world) thread place value fails;
-          follows = effect-follows machine history (whole .follows) STORE thread place value fails;
-          regions = rw (same, store-regions book thread place value) (whole .regions);
-          writes = rw (same, store-writes book thread place value isOpen) (writes-store (stores-cell (whole .world) thread place value fails) (whole .writes));
+          ghost = storedVersions (runHolds .machineHolds) thread place value;
+          home = runHolds .home;
+          machineHolds = machine-store (runHolds .machineHolds) thread place value fails;
+          follows = effect-follows machine history (runHolds .follows) STORE thread place value fails;
+          regions = rw (same, store-regions book thread place value) (runHolds .regions);
+          writes =
+              rw (same, store-writes book thread place value isOpen)
+              (writes-store (stores-cell (runHolds .machineHolds) thread place value fails) (runHolds .writes));
           joined =
               joins-then
               start
-              (whole .home)
-              (whole .home)
+              (runHolds .home)
+              (runHolds .home)
               fed
               (stay .keeps .grows)
               (λ other number made. refl)
-              (whole .joined)
+              (runHolds .joined)
               (λ region isAccepted isSome.
-              let lands : some (whole .home thread (last .0)) ≡ some region = sym (joins-store book (whole .regions) (last .1)) ∙ isSome in
+              let lands : some (runHolds .home thread (last .0)) ≡ some region =
+              sym (joins-store book (runHolds .regions) (last .1)) ∙ isSome in
               rw atLast (last .1 .made, (cc)));
         }
 
@@ -301,91 +338,115 @@ module _ {start : Beginning} {machine : Machine} {history : List Fed} (whole : W
     newest = logAt (machine .logs) thread .tail .next .0
 
     -- a step that makes an entry joins the region that the entry joins
-    joined-append : (kind : Kind) (new : Entries) (region : ℕ) {event : Event} → makes (tookStep kind thread place value) thread ≡ true → thread < 4 → AppendRegions (entriesOf start machine ghost) new (length history) thread event (whole .home) (withHome (whole .home) thread newest region) region → joins book (kindNumber kind) thread ≡ some (withHome (whole .home) thread newest region thread newest) → JoinsHold start (andThen history (tookStep kind thread place value)) new (withHome (whole .home) thread newest region)
+    joined-append : (kind : Kind) (new : Entries) (region : ℕ) {event : Event} →
+        makes (tookStep kind thread place value) thread ≡ true → thread < threadCount →
+        AppendRegions (entriesOf start machine ghost) new (length history) thread event (runHolds .home)
+        (withHome (runHolds .home) thread newest region) region →
+        joins book (kindNumber kind) thread ≡ some (withHome (runHolds .home) thread newest region thread newest) →
+        JoinsHold start (andThen history (tookStep kind thread place value)) new (withHome (runHolds .home) thread newest region)
     joined-append kind new region isMade inThread homes joinsIt =
         let fed = tookStep kind thread place value in
-        let counted = whole .world .places .nextIs thread inThread in
-        let atNew : madeBy (new .before) (andThen history fed) thread (suc (length history)) ≡ newest = ap (λ (given : ℕ → ℕ). madeBy given (andThen history fed) thread (suc (length history))) (homes .appends .grows .beforeSame) ∙ (made-new history fed (start .before) thread ∙ rw isMade (omega arith)) in
+        let counted = runHolds .machineHolds .places .nextIs thread inThread in
+        let atNew : madeBy (new .before) (andThen history fed) thread (suc (length history)) ≡ newest =
+        ap (λ (given : ℕ → ℕ). madeBy given (andThen history fed) thread (suc (length history))) (homes .appends .grows .beforeSame) ∙
+        (made-new history fed (start .before) thread ∙ rw isMade (omega arith)) in
         joins-then
         start
-        (whole .home)
-        (withHome (whole .home) thread newest region)
+        (runHolds .home)
+        (withHome (runHolds .home) thread newest region)
         fed
         (homes .appends .grows)
         (homes .homeKept)
-        (whole .joined)
+        (runHolds .joined)
         (λ found isAccepted isSome.
-        let lands : some (withHome (whole .home) thread newest region thread newest) ≡ some found = sym joinsIt ∙ isSome in
+        let lands : some (withHome (runHolds .home) thread newest region thread newest) ≡ some found = sym joinsIt ∙ isSome in
         rw atNew (new-made (homes .appends), (cc)))
 
-    log-whole : Kept LOG
+    run-log : Kept LOG
     unfolding effect logEffect loggedCellOf feed feedAccepted
-    log-whole fails =
+    run-log fails =
         let fed = tookStep LOG thread place value in
         let asked = log-asked machine thread place value fails in
-        let appended = log-appends (whole .world) thread place value (whole .follows) fails in
+        let appended = log-appends (runHolds .machineHolds) thread place value (runHolds .follows) fails in
         let region = joinedPlace book thread in
-        let homes = append-homes (whole .home) region appended (whole .world .logs thread (asked .inThread) .headNext) in
+        let homes = append-homes (runHolds .home) region appended (runHolds .machineHolds .logs thread (asked .inThread) .headNext) in
         let same = book-then (emptyBook (start .cells)) history fed in
         record {
-          ghost = ghostThen (whole .world) thread place value (storeEntry (whole .world) thread place value) (loggedVersions (whole .world) thread place value);
-          home = withHome (whole .home) thread newest region;
-          world = world-log (whole .world) thread place value (whole .follows) fails;
-          follows = effect-follows machine history (whole .follows) LOG thread place value fails;
-          regions = rw same (regions-log book homes (whole .regions));
-          writes = rw (same, open-writes (openOf book thread) book thread) (writes-log (logs-cell (whole .world) thread place value (whole .follows) fails) (homes .homeKept) (whole .world .cells) (whole .writes));
+          ghost =
+              ghostThen (runHolds .machineHolds) thread place value
+              (storeEntry (runHolds .machineHolds) thread place value)
+              (loggedVersions (runHolds .machineHolds) thread place value);
+          home = withHome (runHolds .home) thread newest region;
+          machineHolds = machine-log (runHolds .machineHolds) thread place value (runHolds .follows) fails;
+          follows = effect-follows machine history (runHolds .follows) LOG thread place value fails;
+          regions = rw same (regions-log book homes (runHolds .regions));
+          writes =
+              rw (same, open-writes (openOf book thread) book thread)
+              (writes-log (logs-cell (runHolds .machineHolds) thread place value (runHolds .follows) fails)
+              (homes .homeKept) (runHolds .machineHolds .cells) (runHolds .writes));
           joined = joined-append LOG _ region (rw (eq-eqb thread thread refl)) (asked .inThread) homes (joins-log-home book homes);
         }
 
-    acquire-whole : Kept ACQUIRE
+    run-acquire : Kept ACQUIRE
     unfolding effect acquireEffect feed feedAccepted
-    acquire-whole fails =
+    run-acquire fails =
         let fed = tookStep ACQUIRE thread place value in
         let asked = acquire-asked machine thread place value fails in
-        let appended = appends (whole .world) thread (asked .inThread) (acquireEntry (whole .world) thread place value) (asked .room) in
+        let appended =
+        appends (runHolds .machineHolds) thread (asked .inThread)
+        (acquireEntry (runHolds .machineHolds) thread place value) (asked .room) in
         let region = length (book .regions) in
-        let homes = append-homes (whole .home) region appended (whole .world .logs thread (asked .inThread) .headNext) in
+        let homes = append-homes (runHolds .home) region appended (runHolds .machineHolds .logs thread (asked .inThread) .headNext) in
         let same = book-then (emptyBook (start .cells)) history fed in
         record {
-          ghost = ghostThen (whole .world) thread place value (acquireEntry (whole .world) thread place value) (ghost .versions);
-          home = withHome (whole .home) thread newest region;
-          world = world-acquire (whole .world) thread place value fails;
-          follows = effect-follows machine history (whole .follows) ACQUIRE thread place value fails;
-          regions = rw same (regions-acquire book homes (whole .regions));
-          writes = rw same (writes-keep (λ cell. refl) (homes .homeKept) (whole .world .cells) (whole .writes));
+          ghost =
+              ghostThen (runHolds .machineHolds) thread place value
+              (acquireEntry (runHolds .machineHolds) thread place value) (ghost .versions);
+          home = withHome (runHolds .home) thread newest region;
+          machineHolds = machine-acquire (runHolds .machineHolds) thread place value fails;
+          follows = effect-follows machine history (runHolds .follows) ACQUIRE thread place value fails;
+          regions = rw same (regions-acquire book homes (runHolds .regions));
+          writes = rw same (writes-keep (λ cell. refl) (homes .homeKept) (runHolds .machineHolds .cells) (runHolds .writes));
           joined = joined-append ACQUIRE _ region (rw (eq-eqb thread thread refl)) (asked .inThread) homes (joins-acquire-home book homes);
         }
 
-    log-release-whole : Kept LOGREL
+    run-log-release : Kept LOGREL
     unfolding effect logReleaseEffect feed feedAccepted
-    log-release-whole fails =
+    run-log-release fails =
         let fed = tookStep LOGREL thread place value in
         let asked = log-release-asked machine thread place value fails in
-        let appended = appends (whole .world) thread (asked .inThread) (releaseEntry (whole .world) thread place value) (asked .room) in
+        let appended =
+        appends (runHolds .machineHolds) thread (asked .inThread)
+        (releaseEntry (runHolds .machineHolds) thread place value) (asked .room) in
         let region = joinedPlace book thread in
-        let homes = append-homes (whole .home) region appended (whole .world .logs thread (asked .inThread) .headNext) in
+        let homes = append-homes (runHolds .home) region appended (runHolds .machineHolds .logs thread (asked .inThread) .headNext) in
         let same = book-then (emptyBook (start .cells)) history fed in
         record {
-          ghost = ghostThen (whole .world) thread place value (releaseEntry (whole .world) thread place value) (ghost .versions);
-          home = withHome (whole .home) thread newest region;
-          world = world-log-release (whole .world) thread place value fails;
-          follows = effect-follows machine history (whole .follows) LOGREL thread place value fails;
-          regions = rw same (regions-release book homes (whole .regions));
-          writes = rw (same, open-writes (openOf book thread) book thread) (writes-keep (λ cell. refl) (homes .homeKept) (whole .world .cells) (whole .writes));
+          ghost =
+              ghostThen (runHolds .machineHolds) thread place value
+              (releaseEntry (runHolds .machineHolds) thread place value) (ghost .versions);
+          home = withHome (runHolds .home) thread newest region;
+          machineHolds = machine-log-release (runHolds .machineHolds) thread place value fails;
+          follows = effect-follows machine history (runHolds .follows) LOGREL thread place value fails;
+          regions = rw same (regions-release book homes (runHolds .regions));
+          writes =
+              rw (same, open-writes (openOf book thread) book thread)
+              (writes-keep (λ cell. refl) (homes .homeKept) (runHolds .machineHolds .cells) (runHolds .writes));
           joined = joined-append LOGREL _ region (rw (eq-eqb thread thread refl)) (asked .inThread) homes (joins-release-home book homes);
         }
 
   -- each effect whose tests all failed keeps it
-  pub whole-effect : (kind : Kind) (thread place value : ℕ) → AllFail (testsOf machine kind thread place value) → Whole start (effect machine kind thread place value .machine) (andThen history (tookStep kind thread place value))
-  whole-effect LOAD thread place value fails = load-whole thread place value fails
-  whole-effect LOG thread place value fails = log-whole thread place value fails
-  whole-effect STORE thread place value fails = store-whole thread place value fails
-  whole-effect ACQUIRE thread place value fails = acquire-whole thread place value fails
-  whole-effect LOGREL thread place value fails = log-release-whole thread place value fails
-  whole-effect RELEASE thread place value fails = release-whole thread place value fails
-  whole-effect FLUSH thread place value fails = flush-whole thread place value fails
-  whole-effect FLUSHLOG thread place value fails = flush-log-whole thread place value fails
-  whole-effect FENCE thread place value fails = fence-whole thread place value fails
-  whole-effect PRUNE thread place value fails = prune-whole thread place value fails
-  whole-effect EVICT thread place value fails = evict-whole thread place value fails
-  whole-effect EVICTLOG thread place value fails = evict-log-whole thread place value fails
+  pub run-effect : (kind : Kind) (thread place value : ℕ) → AllFail (testsOf machine kind thread place value) →
+      RunInvariant start (effect machine kind thread place value .machine) (andThen history (tookStep kind thread place value))
+  run-effect LOAD thread place value fails = run-load thread place value fails
+  run-effect LOG thread place value fails = run-log thread place value fails
+  run-effect STORE thread place value fails = run-store thread place value fails
+  run-effect ACQUIRE thread place value fails = run-acquire thread place value fails
+  run-effect LOGREL thread place value fails = run-log-release thread place value fails
+  run-effect RELEASE thread place value fails = run-release thread place value fails
+  run-effect FLUSH thread place value fails = run-flush thread place value fails
+  run-effect FLUSHLOG thread place value fails = run-flush-log thread place value fails
+  run-effect FENCE thread place value fails = run-fence thread place value fails
+  run-effect PRUNE thread place value fails = run-prune thread place value fails
+  run-effect EVICT thread place value fails = run-evict thread place value fails
+  run-effect EVICTLOG thread place value fails = run-evict-log thread place value fails

@@ -32,8 +32,8 @@ use Rattle.atomicity.proofs.Places.{madeBy}
 use Rattle.atomicity.proofs.Regions.{regions-start}
 use Rattle.atomicity.proofs.StepsFollow.{begin-follows}
 use Rattle.atomicity.proofs.LogViews.{logAt}
-use Rattle.atomicity.proofs.RunInvariant.{Whole, whole-refused, whole-effect}
-use Rattle.atomicity.proofs.MachineInvariant.{Beginning, Ghost, World, at-start, entriesOf}
+use Rattle.atomicity.proofs.RunInvariant.{RunInvariant, run-refused, run-effect}
+use Rattle.atomicity.proofs.MachineInvariant.{Beginning, Ghost, MachineInvariant, at-start, entriesOf}
 use Rattle.atomicity.proofs.Writes.{writes-start}
 
 -- what a list of steps begins with: the cells, and all LSNs below the heads given
@@ -63,9 +63,9 @@ module _ (cells : List ℕ) (logs : List Log) (isLength : length cells ≡ cellC
   never-releases : {A : Type 0} (thread : ℕ) {lock : ℕ} → logAt logs thread .tail .releasing ≡ Lock lock → A
   never-releases thread isReleasing = nothing-released (releases-nothing logs all thread) isReleasing
 
-  begin-world : World begin machine [] nothingSaid
+  begin-machine : MachineInvariant begin machine [] nothingSaid
   unfolding nothingSaid madeBy
-  begin-world = record {
+  begin-machine = record {
     sized = begin-sized cells logs all;
     logs = λ thread inRange. idle-holds (logAt logs thread) (λ number. payloadOf Empty) (all .idle thread inRange);
     begins = λ thread inRange. omega (arith, all .idle thread inRange .headLeast);
@@ -110,12 +110,12 @@ module _ (cells : List ℕ) (logs : List Log) (isLength : length cells ≡ cellC
     };
   }
 
-  pub begin-whole : Whole begin machine []
+  pub begin-run : RunInvariant begin machine []
   unfolding nothingSaid fedBook
-  begin-whole = record {
+  begin-run = record {
     ghost = nothingSaid;
     home = λ thread number. 0;
-    world = begin-world;
+    machineHolds = begin-machine;
     follows = begin-follows cells logs all;
     regions = regions-start next-most;
     writes = writes-start (λ cell. refl);
@@ -123,13 +123,13 @@ module _ (cells : List ℕ) (logs : List Log) (isLength : length cells ≡ cellC
   }
 
 -- every list of steps
-pub run-whole : {start : Beginning} (machine : Machine) → Whole start machine [] → (steps : List Step)
-    → Whole start (after machine steps) (historyOf machine steps)
-run-whole {start} machine begins steps =
+pub run-holds : {start : Beginning} (machine : Machine) → RunInvariant start machine [] → (steps : List Step)
+    → RunInvariant start (after machine steps) (historyOf machine steps)
+run-holds {start} machine begins steps =
     run-keeps
-    (Whole start)
-    (λ machine history whole next isRefused. whole-refused whole next isRefused)
-    (λ machine history whole kind thread place value fails. whole-effect whole kind thread place value fails)
+    (RunInvariant start)
+    (λ machine history runHolds next isRefused. run-refused runHolds next isRefused)
+    (λ machine history runHolds kind thread place value fails. run-effect runHolds kind thread place value fails)
     machine
     []
     begins
@@ -152,13 +152,13 @@ pub start-length : (words : List ℕ) → length (startCells words) ≡ cellCoun
 start-length = on-start-cells (λ cells machine. length cells ≡ cellCount) (λ cells isLength. isLength)
 
 -- every list of steps from a start call
-pub after-whole : (words : List ℕ) (steps : List Step)
-    → Whole (beginningWith (startCells words) freshLogs) (machineAfter words steps) (historyAfter words steps)
-after-whole words steps =
-    run-whole
+pub after-run : (words : List ℕ) (steps : List Step)
+    → RunInvariant (beginningWith (startCells words) freshLogs) (machineAfter words steps) (historyAfter words steps)
+after-run words steps =
+    run-holds
     (startMachine words)
     (on-start-cells
-    (λ cells machine. Whole (beginningWith cells freshLogs) machine [])
-    (λ cells isLength. begin-whole cells freshLogs isLength fresh-all)
+    (λ cells machine. RunInvariant (beginningWith cells freshLogs) machine [])
+    (λ cells isLength. begin-run cells freshLogs isLength fresh-all)
     words)
     steps

@@ -19,7 +19,8 @@ use Rattle.undo.specs.declared.Event.the-variants.{Empty, Store, Acquire, Relea
 use Rattle.log.specs.declared.Log.{Log}
 use Rattle.accesses.specs.Clocks.{clockAt, noClock, startClocks}
 use Rattle.machine.specs.Clocks.{logRaces}
-use Rattle.machine.specs.Effects.{loadEffect, logEffect, storeEffect, acquireEffect, logReleaseEffect, releaseEffect, flushEffect, flushLogEffect, fenceEffect, pruneEffect, countPruned, evictEffect, evictLogEffect, effect}
+use Rattle.machine.specs.Effects.{loadEffect, logEffect, storeEffect, acquireEffect, logReleaseEffect, releaseEffect, flushEffect}
+use Rattle.machine.specs.Effects.{flushLogEffect, fenceEffect, pruneEffect, countPruned, evictEffect, evictLogEffect, effect}
 use Rattle.kinds.specs.Kinds.{Kind, LOAD, LOG, STORE, ACQUIRE, LOGREL, RELEASE, FLUSH, FLUSHLOG, FENCE, PRUNE, EVICT, EVICTLOG}
 use Rattle.machine.specs.Holds.{logOf, lockOf, clockOf, withLog}
 use Rattle.machine.specs.Refusals.{logTests, acquireTests, logReleaseTests, stateTests}
@@ -34,7 +35,8 @@ use Rattle.atomicity.specs.History.{Fed, stepAt, startMachine, machineAf
 use Rattle.atomicity.proofs.Epochs.{releases, epochAt}
 use Rattle.atomicity.proofs.Ordered.{andThen, own-reaches, old-or-next, step-stays, step-next}
 use Rattle.atomicity.proofs.ClockInvariant.{clocked-start, clocked-refused, clocked-plain, clocked-acquire, clocked-release}
-use Rattle.atomicity.proofs.AccessInvariant.{Took, AccessOf, accessed-start, accessed-refused, accessed-plain, accessed-load, accessed-log}
+use Rattle.atomicity.proofs.AccessInvariant.{Took, AccessOf, accessed-start, accessed-refused, accessed-plain, accessed-load}
+use Rattle.atomicity.proofs.AccessInvariant.{accessed-log}
 use Rattle.atomicity.proofs.Holding.{releasing-lock, held-by, Held, begin-held, held-log, held-lock, held-acquire, held-release}
 use Rattle.atomicity.proofs.HistoryRuns.{kindNumber, tookStep, thread-in-range, place-in-range, state-fails, run-keeps}
 use Rattle.atomicity.proofs.Follows.{Follows}
@@ -60,15 +62,19 @@ pruned-same machine (Acquire lock count) = record { clocks = refl; lockClocks = 
 pruned-same machine (Release lock count) = record { clocks = refl; lockClocks = refl; accesses = refl }
 
 -- nor who holds what
-pruned-held : (machine : Machine) (event : Event) → Held (machine .logs) (machine .locks) (machine .clocks) (machine .«lock_clocks») → Held (countPruned machine event .logs) (countPruned machine event .locks) (machine .clocks) (machine .«lock_clocks»)
+pruned-held : (machine : Machine) (event : Event) →
+    Held (machine .logs) (machine .locks) (machine .clocks) (machine .«lock_clocks») →
+    Held (countPruned machine event .logs) (countPruned machine event .locks) (machine .clocks) (machine .«lock_clocks»)
 pruned-held machine Empty held = held
 pruned-held machine (Store cell old) held = held
 pruned-held machine (Acquire lock count) held = held
-pruned-held machine (Release lock count) held = held-lock (machine .logs) (machine .locks) (machine .clocks) (machine .«lock_clocks») held lock _ refl
+pruned-held machine (Release lock count) held =
+    held-lock (machine .logs) (machine .locks) (machine .clocks) (machine .«lock_clocks») held lock _ refl
 
 module _ (machine : Machine) (history : List Fed) (follows : Follows machine history) where
   -- the threads of accepted steps stay in range
-  range-next : (next : Fed) → next .thread < threadCount → (place : ℕ) → stepAt (andThen history next) place .accepted ≡ true → stepAt (andThen history next) place .thread < threadCount
+  range-next : (next : Fed) → next .thread < threadCount → (place : ℕ) →
+      stepAt (andThen history next) place .accepted ≡ true → stepAt (andThen history next) place .thread < threadCount
   range-next next isThread =
       old-or-next
       history
@@ -78,18 +84,29 @@ module _ (machine : Machine) (history : List Fed) (follows : Follows machine his
       (λ isAccepted. rw (step-next history next) isThread)
 
   -- a plain step keeps it, if it leaves clocks and accesses as they are
-  follows-plain : (next : Fed) (after : Machine) → next .accepted ≡ true → next .thread < threadCount → Plain (next .kind) → Sized after → after .clocks ≡ machine .clocks → after .«lock_clocks» ≡ machine .«lock_clocks» → after .accesses ≡ machine .accesses → Held (after .logs) (after .locks) (machine .clocks) (machine .«lock_clocks») → Follows after (andThen history next)
+  follows-plain : (next : Fed) (after : Machine) → next .accepted ≡ true → next .thread < threadCount →
+      Plain (next .kind) → Sized after → after .clocks ≡ machine .clocks →
+      after .«lock_clocks» ≡ machine .«lock_clocks» → after .accesses ≡ machine .accesses →
+      Held (after .logs) (after .locks) (machine .clocks) (machine .«lock_clocks») →
+      Follows after (andThen history next)
   follows-plain next after isAccepted isThread plain sized sameClocks sameLockClocks sameAccesses held = record {
     sized = sized;
     inRange = range-next next isThread;
-    clocked = rw (sameClocks, sameLockClocks) (clocked-plain (machine .clocks) (machine .«lock_clocks») history next (follows .clocked) isAccepted isThread (plain .notAcquire) (plain .notRelease));
-    accessed = rw sameAccesses (accessed-plain history next (machine .accesses) (follows .accessed) (λ isAccess. ⊎-elim (plain .notLoad) (plain .notLog) isAccess));
+    clocked =
+        rw (sameClocks, sameLockClocks)
+        (clocked-plain (machine .clocks) (machine .«lock_clocks») history next (follows .clocked) isAccepted isThread
+        (plain .notAcquire) (plain .notRelease));
+    accessed =
+        rw sameAccesses
+        (accessed-plain history next (machine .accesses) (follows .accessed)
+        (λ isAccess. ⊎-elim (plain .notLoad) (plain .notLog) isAccess));
     held = rw (sameClocks, sameLockClocks) held;
   }
 
   module _ (thread : ℕ) (isThread : thread < threadCount) where
     -- a log with the same lock to release changes nothing of who holds what
-    held-with : (log : Log) → log .tail .releasing ≡ logOf machine thread .tail .releasing → Held (set (machine .logs) thread log) (machine .locks) (machine .clocks) (machine .«lock_clocks»)
+    held-with : (log : Log) → log .tail .releasing ≡ logOf machine thread .tail .releasing →
+        Held (set (machine .logs) thread log) (machine .locks) (machine .clocks) (machine .«lock_clocks»)
     held-with log same =
         held-log
         (machine .logs)
@@ -106,14 +123,29 @@ module _ (machine : Machine) (history : List Fed) (follows : Follows machine his
     own-at-most : (cell place : ℕ) → Took history (AccessOf cell thread) place → epochAt history place ≤ suc (releases history thread)
     own-at-most cell place took =
         let isOwn = took .isSort .2 in
-        omega (arith, follows .clocked .own thread isThread, ap (clockAt (clockOf machine thread)) isOwn, follows .clocked .threads thread isThread .counts place (took .isAccepted) (rw isOwn at (own-reaches history place (took .isAccepted))))
+        omega (
+          arith,
+          follows .clocked .own thread isThread,
+          ap (clockAt (clockOf machine thread)) isOwn,
+          follows .clocked .threads thread isThread .counts place (took .isAccepted)
+              (rw isOwn at (own-reaches history place (took .isAccepted))),
+        )
 
   module _ (thread place value : ℕ) where
     abbrev Kept : Kind → Type 0
-    Kept kind = AllFail (testsOf machine kind thread place value) → Follows (effect machine kind thread place value .machine) (andThen history (tookStep kind thread place value))
+    Kept kind =
+        AllFail (testsOf machine kind thread place value) →
+        Follows (effect machine kind thread place value .machine) (andThen history (tookStep kind thread place value))
 
     -- the kinds but LOAD, LOG, ACQUIRE and RELEASE
-    plain-kept : (kind : Kind) → Plain (kindNumber kind) → effect machine kind thread place value .machine .clocks ≡ machine .clocks → effect machine kind thread place value .machine .«lock_clocks» ≡ machine .«lock_clocks» → effect machine kind thread place value .machine .accesses ≡ machine .accesses → (thread < threadCount → AllFail (stateTests machine kind thread place) → Held (effect machine kind thread place value .machine .logs) (effect machine kind thread place value .machine .locks) (machine .clocks) (machine .«lock_clocks»)) → Kept kind
+    plain-kept : (kind : Kind) → Plain (kindNumber kind) →
+        effect machine kind thread place value .machine .clocks ≡ machine .clocks →
+        effect machine kind thread place value .machine .«lock_clocks» ≡ machine .«lock_clocks» →
+        effect machine kind thread place value .machine .accesses ≡ machine .accesses →
+        (thread < threadCount → AllFail (stateTests machine kind thread place) →
+        Held (effect machine kind thread place value .machine .logs)
+        (effect machine kind thread place value .machine .locks) (machine .clocks) (machine .«lock_clocks»)) →
+        Kept kind
     plain-kept kind plain sameClocks sameLockClocks sameAccesses held fails =
         let isThread = thread-in-range machine kind thread place value fails in
         follows-plain
@@ -142,21 +174,28 @@ module _ (machine : Machine) (history : List Fed) (follows : Follows machine his
 
     flushLog-kept : Kept FLUSHLOG
     unfolding effect flushLogEffect flushLogOf flushedTail
-    flushLog-kept = plain-kept FLUSHLOG (omega arith) refl refl refl (λ isThread fails. held-with thread isThread (flushLogOf (logOf machine thread)) refl)
+    flushLog-kept =
+        plain-kept FLUSHLOG (omega arith) refl refl refl
+        (λ isThread fails. held-with thread isThread (flushLogOf (logOf machine thread)) refl)
 
     fence-kept : Kept FENCE
     unfolding effect fenceEffect fenceLogOf fencedTail
-    fence-kept = plain-kept FENCE (omega arith) refl refl refl (λ isThread fails. held-with thread isThread (fenceLogOf (logOf machine thread)) refl)
+    fence-kept =
+        plain-kept FENCE (omega arith) refl refl refl (λ isThread fails. held-with thread isThread (fenceLogOf (logOf machine thread)) refl)
 
     evictLog-kept : Kept EVICTLOG
     unfolding effect evictLogEffect evictSlotOf
-    evictLog-kept = plain-kept EVICTLOG (omega arith) refl refl refl (λ isThread fails. held-with thread isThread (evictSlotOf (logOf machine thread) place) refl)
+    evictLog-kept =
+        plain-kept EVICTLOG (omega arith) refl refl refl
+        (λ isThread fails. held-with thread isThread (evictSlotOf (logOf machine thread) place) refl)
 
     logRelease-kept : Kept LOGREL
     unfolding effect logReleaseEffect stateTests logReleaseTests appendOf grownTail
     logRelease-kept =
         plain-kept LOGREL (omega arith) refl refl refl (λ isThread fails.
-        held-log (machine .logs) (machine .locks) (machine .clocks) (machine .«lock_clocks») (follows .held) thread (enterOf (logOf machine thread) (Release place (lockOf machine place .count))) (omega (arith, follows .sized .logs))
+        held-log (machine .logs) (machine .locks) (machine .clocks) (machine .«lock_clocks») (follows .held) thread
+        (enterOf (logOf machine thread) (Release place (lockOf machine place .count)))
+        (omega (arith, follows .sized .logs))
         (λ lock isReleasing.
         let sameLock : place ≡ lock = cc in
         rw (← sameLock) (held-by (lockOf machine place .holder) thread (not-false _ (fails .1 .0)))))
@@ -185,8 +224,13 @@ module _ (machine : Machine) (history : List Fed) (follows : Follows machine his
         record {
           sized = effect-sized machine (follows .sized) LOAD thread place value fails;
           inRange = range-next next isThread;
-          clocked = clocked-plain (machine .clocks) (machine .«lock_clocks») history next (follows .clocked) refl isThread (omega arith) (omega arith);
-          accessed = rw (follows .clocked .own thread isThread) (accessed-load history next (machine .accesses) (follows .accessed) refl isThread isCell (follows .sized .stamps) (own-at-most thread isThread place) refl);
+          clocked =
+              clocked-plain (machine .clocks) (machine .«lock_clocks») history next (follows .clocked) refl isThread
+              (omega arith) (omega arith);
+          accessed =
+              rw (follows .clocked .own thread isThread)
+              (accessed-load history next (machine .accesses) (follows .accessed) refl isThread isCell
+              (follows .sized .stamps) (own-at-most thread isThread place) refl);
           held = follows .held;
         }
 
@@ -200,8 +244,17 @@ module _ (machine : Machine) (history : List Fed) (follows : Follows machine his
         record {
           sized = effect-sized machine (follows .sized) LOG thread place value fails;
           inRange = range-next next isThread;
-          clocked = clocked-plain (machine .clocks) (machine .«lock_clocks») history next (follows .clocked) refl isThread (omega arith) (omega arith);
-          accessed = rw (follows .clocked .own thread isThread) (accessed-log history next (machine .accesses) (follows .accessed) refl isThread isCell (follows .sized .stamps) (own-at-most thread isThread place) refl (follows .sized .logged) (follows .sized .loggers) (λ earlier took. log-ordered machine history follows next refl isThread (omega arith) place isCell noRace earlier (took .isAccepted) (inr (took .isSort .0)) (took .isSort .1)));
+          clocked =
+              clocked-plain (machine .clocks) (machine .«lock_clocks») history next (follows .clocked) refl isThread
+              (omega arith) (omega arith);
+          accessed =
+              rw (follows .clocked .own thread isThread)
+              (accessed-log history next (machine .accesses) (follows .accessed) refl isThread isCell
+              (follows .sized .stamps) (own-at-most thread isThread place) refl (follows .sized .logged)
+              (follows .sized .loggers)
+              (λ earlier took.
+              log-ordered machine history follows next refl isThread (omega arith) place isCell noRace earlier
+              (took .isAccepted) (inr (took .isSort .0)) (took .isSort .1)));
           held = held-with thread isThread (enterOf (logOf machine thread) (Store place (cachedAt (machine .cache) place))) refl;
         }
 
@@ -215,8 +268,11 @@ module _ (machine : Machine) (history : List Fed) (follows : Follows machine his
         record {
           sized = effect-sized machine (follows .sized) ACQUIRE thread place value fails;
           inRange = range-next next isThread;
-          clocked = clocked-acquire (machine .clocks) (machine .«lock_clocks») history next (follows .clocked) refl isThread (follows .sized .clocks) refl isLock;
-          accessed = accessed-plain history next (machine .accesses) (follows .accessed) (λ isAccess. ⊎-elim (omega arith) (omega arith) isAccess);
+          clocked =
+              clocked-acquire (machine .clocks) (machine .«lock_clocks») history next (follows .clocked) refl isThread
+              (follows .sized .clocks) refl isLock;
+          accessed =
+              accessed-plain history next (machine .accesses) (follows .accessed) (λ isAccess. ⊎-elim (omega arith) (omega arith) isAccess);
           held =
               held-acquire
               (set (machine .logs) thread (enterOf (logOf machine thread) (Acquire place (lockOf machine place .count))))
@@ -239,13 +295,19 @@ module _ (machine : Machine) (history : List Fed) (follows : Follows machine his
         let isThread = thread-in-range machine RELEASE thread place value fails in
         let isLock = ltb-true place lockCount (not-false _ (place-in-range machine RELEASE thread place value fails)) in
         let next = tookStep RELEASE thread place value in
-        let isReleasing = releasing-lock (logOf machine thread .tail .releasing) place (not-false _ (state-fails machine RELEASE thread place value fails .0)) in
+        let isReleasing =
+        releasing-lock (logOf machine thread .tail .releasing) place
+        (not-false _ (state-fails machine RELEASE thread place value fails .0)) in
         let isHolder = follows .held .releasesHeld thread place isReleasing in
         record {
           sized = effect-sized machine (follows .sized) RELEASE thread place value fails;
           inRange = range-next next isThread;
-          clocked = clocked-release (machine .clocks) (machine .«lock_clocks») history next (follows .clocked) refl isThread (follows .sized .clocks) (follows .sized .lockClocks) refl isLock (follows .held .knowsLock place thread isHolder);
-          accessed = accessed-plain history next (machine .accesses) (follows .accessed) (λ isAccess. ⊎-elim (omega arith) (omega arith) isAccess);
+          clocked =
+              clocked-release (machine .clocks) (machine .«lock_clocks») history next (follows .clocked) refl isThread
+              (follows .sized .clocks) (follows .sized .lockClocks) refl isLock
+              (follows .held .knowsLock place thread isHolder);
+          accessed =
+              accessed-plain history next (machine .accesses) (follows .accessed) (λ isAccess. ⊎-elim (omega arith) (omega arith) isAccess);
           held =
               held-release
               (machine .logs)
@@ -268,7 +330,8 @@ module _ (machine : Machine) (history : List Fed) (follows : Follows machine his
         }
 
   -- each effect whose tests all failed keeps it
-  pub effect-follows : (kind : Kind) (thread place value : ℕ) → AllFail (testsOf machine kind thread place value) → Follows (effect machine kind thread place value .machine) (andThen history (tookStep kind thread place value))
+  pub effect-follows : (kind : Kind) (thread place value : ℕ) → AllFail (testsOf machine kind thread place value) →
+      Follows (effect machine kind thread place value .machine) (andThen history (tookStep kind thread place value))
   effect-follows LOAD thread place value fails = load-kept thread place value fails
   effect-follows LOG thread place value fails = log-kept thread place value fails
   effect-follows STORE thread place value fails = store-kept thread place value fails

@@ -7,6 +7,7 @@ use mathlib.Core.Bool.{true}
 use mathlib.Core.List.{List}
 use mathlib.Core.Logic.{_⊎_, ⊎-elim}
 use lib.ListN.{length}
+use Rattle.sizes.specs.Sizes.{lockCount}
 use Rattle.undo.specs.Events.{placeOf}
 use Rattle.undo.specs.declared.Event.{Event}
 use Rattle.undo.specs.declared.Event.the-variants.{Empty, Store, Acquire, Release}
@@ -19,8 +20,11 @@ use Rattle.atomicity.proofs.Ordered.{andThen}
 -- what an entry can say
 pub data Formed : Event → Type 0 where
   aStore : {cell old : ℕ} → cell < 128 → Formed (Store cell old)
-  anAcquire : {lock : ℕ} {count : SyncCount} → lock < 8 → Formed (Acquire lock count)
-  aRelease : {lock : ℕ} {count : SyncCount} → lock < 8 → Formed (Release lock count)
+  anAcquire : {lock : ℕ} {count : SyncCount} → lock < lockCount → Formed (Acquire lock count)
+  aRelease : {lock : ℕ} {count : SyncCount} → lock < lockCount → Formed (Release lock count)
+
+pub release-formed : {lock : ℕ} {count : SyncCount} → Formed (Release lock count) → lock < lockCount
+release-formed (aRelease inRange) = inRange
 
 -- the kind of the steps that make such an entry: 2 LOG, 4 ACQUIRE and 5 LOGREL
 abbrev pub stepKindOf : Event → ℕ
@@ -39,7 +43,8 @@ pub record EntryStep (given : ℕ → ℕ) (history : List Fed) (thread number :
 
 pub record TimesHold (history : List Fed) (entries : Entries) : Type 0 where
   pub past : (thread number : ℕ) → Made entries thread number → entries .time thread number < length history
-  pub later : (thread number next : ℕ) → Made entries thread number → Made entries thread next → number < next → entries .time thread number < entries .time thread next
+  pub later : (thread number next : ℕ) → Made entries thread number → Made entries thread next → number < next →
+      entries .time thread number < entries .time thread next
   pub formed : (thread number : ℕ) → Made entries thread number → Formed (entries .event thread number)
   pub entryStep : {thread number : ℕ} {event : Event} → Is entries thread number event
       → EntryStep (entries .before) history thread number event (entries .time thread number)
@@ -55,7 +60,8 @@ entry-step-then {given} {history} fed before step = record {
   isLast = last-before history fed given before ∙ step .isLast;
 }
 
-pub times-keep : {history : List Fed} {old new : Entries} (fed : Fed) → Keeps old new (length history) → TimesHold history old → TimesHold (andThen history fed) new
+pub times-keep : {history : List Fed} {old new : Entries} (fed : Fed) → Keeps old new (length history) →
+    TimesHold history old → TimesHold (andThen history fed) new
 times-keep {history} {old} {new} fed keeps holds = record {
   past = λ thread number made.
       let was = made-kept keeps made in
@@ -65,7 +71,8 @@ times-keep {history} {old} {new} fed keeps holds = record {
       let was = made-kept keeps made in
       let too = made-kept keeps also in
       rw (keeps .grows .timeSame thread number was, keeps .grows .timeSame thread next too) (holds .later thread number next was too less);
-  formed = λ thread number made. let was = made-kept keeps made in rw (keeps .grows .saysSame thread number was) (holds .formed thread number was);
+  formed = λ thread number made.
+      let was = made-kept keeps made in rw (keeps .grows .saysSame thread number was) (holds .formed thread number was);
   entryStep = λ {thread} {number} is.
       let was = kept-is keeps is in
       rw (keeps .grows .beforeSame, keeps .grows .timeSame thread number (was .made))
@@ -82,7 +89,8 @@ pub record MakesEntry (history : List Fed) (fed : Fed) (old new : Entries) (thre
   pub isThread : fed .thread ≡ thread
   pub isLast : lastOf (new .before) (andThen history fed) (length history) ≡ old .next thread
 
-module _ {history : List Fed} {fed : Fed} {old new : Entries} {thread : ℕ} {event : Event} (step : MakesEntry history fed old new thread event) (holds : TimesHold history old) where
+module _ {history : List Fed} {fed : Fed} {old new : Entries} {thread : ℕ} {event : Event}
+    (step : MakesEntry history fed old new thread event) (holds : TimesHold history old) where
   old-time : (other number : ℕ) → Made old other number → new .time other number < length history
   old-time other number made = rw (step .appends .grows .timeSame other number made) (holds .past other number made)
 
@@ -101,12 +109,14 @@ module _ {history : List Fed} {fed : Fed} {old new : Entries} {thread : ℕ} {ev
         ⊎-elim
         (λ was.
         ⊎-elim
-        (λ too. rw (step .appends .grows .timeSame other number was, step .appends .grows .timeSame other next too) (holds .later other number next was too less))
+        (λ too. rw (step .appends .grows .timeSame other number was, step .appends .grows .timeSame other next too)
+        (holds .later other number next was too less))
         (λ at. rw (new-time {other = other} {number = next} at) (old-time other number was))
         (made-cases (step .appends) also))
         (λ at.
         ⊎-elim
-        (λ too. let under = too .below in let place = at .1 in let here : old .next other ≡ old .next thread = ap (old .next) (at .0) in absurd (omega arith))
+        (λ too. let under =
+        too .below in let place = at .1 in let here : old .next other ≡ old .next thread = ap (old .next) (at .0) in absurd (omega arith))
         (λ again. let one = at .1 in let other = again .1 in absurd (omega arith))
         (made-cases (step .appends) also))
         (made-cases (step .appends) made);

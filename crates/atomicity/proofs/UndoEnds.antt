@@ -10,11 +10,13 @@ use native.Mathlib.Omega.{arith}
 use borrow.Author.Tests.{ltb-true, ltb-false}
 use Rattle.sizes.specs.Sizes.{threadCount}
 use Rattle.answer.proofs.BelowLaws.{someBelow-found, someBelow-none}
-use Rattle.recovery.specs.Undo.{StoredLog, Undo, leftOf, mayTake, lowestFrom, takeLast, takeFrom, takeNext, takeMany, hasLeft}
+use Rattle.image.specs.Stored.{StoredLog}
+use Rattle.recovery.specs.Undo.{Undo, leftOf, mayTake, lowestFrom, takeLast, takeFrom, takeNext, takeMany, hasLeft}
 use Rattle.recovery.proofs.UndoLaws.{lowest-may}
 use Rattle.atomicity.specs.AnyOrder.{Undoing}
 use Rattle.atomicity.proofs.Undoable.{Undoable}
-use Rattle.atomicity.proofs.UndoSteps.{lastOf, thread-below, fails, handed-moved, Takeable, mayTake-takeable, takeable-mayTake, takeLast-taken, taken-within}
+use Rattle.atomicity.proofs.UndoSteps.{lastOf, thread-below, fails, handed-moved, Takeable, mayTake-takeable, takeable-mayTake}
+use Rattle.atomicity.proofs.UndoSteps.{takeLast-taken, taken-within}
 use Rattle.atomicity.proofs.UndoKeeps.{Midway, start-midway, take-midway}
 
 -- a thread that has entries left, and whose time none below the bound that has some exceeds
@@ -24,7 +26,8 @@ record Latest (left time : ℕ → ℕ) (bound : ℕ) : Type 0 where
   latest : (other : ℕ) → other < bound → 0 < left other → time other ≤ time thread
 
 -- with one thread more, a thread is the latest if it is not before the latest so far, nor before the new one
-extend : (left time : ℕ → ℕ) (bound : ℕ) (earlier : Latest left time bound) (thread : ℕ) → 0 < left thread → time (earlier .thread) ≤ time thread → (0 < left bound → time bound ≤ time thread) → Latest left time (suc bound)
+extend : (left time : ℕ → ℕ) (bound : ℕ) (earlier : Latest left time bound) (thread : ℕ) → 0 < left thread →
+    time (earlier .thread) ≤ time thread → (0 < left bound → time bound ≤ time thread) → Latest left time (suc bound)
 extend left time bound earlier thread hasEntry notEarlier notLast = record {
   thread = thread;
   hasEntry = hasEntry;
@@ -37,7 +40,8 @@ extend left time bound earlier thread hasEntry notEarlier notLast = record {
 
 -- of threads of which one has entries left, one is the latest
 find-latest : (left time : ℕ → ℕ) (first : ℕ) → 0 < left first → (bound : ℕ) → Latest left time bound
-find-latest left time first hasEntry zero = record { thread = first; hasEntry = hasEntry; latest = λ other below otherHas. absurd (omega arith) }
+find-latest left time first hasEntry zero =
+    record { thread = first; hasEntry = hasEntry; latest = λ other below otherHas. absurd (omega arith) }
 find-latest left time first hasEntry (suc bound) = compare-last (find-latest left time first hasEntry bound)
   where
     compare-last : Latest left time bound → Latest left time (suc bound)
@@ -45,16 +49,24 @@ find-latest left time first hasEntry (suc bound) = compare-last (find-latest lef
         by-cases
         (Dec·and (decLt 0 (left bound)) (decLt (time (earlier .thread)) (time bound)))
         (λ later. extend left time bound earlier bound (later .0) (omega (arith, later .1)) (λ has. omega arith))
-        (λ notLater. extend left time bound earlier (earlier .thread) (earlier .hasEntry) (omega arith) (λ has. by-cases (decLt (time (earlier .thread)) (time bound)) (λ later. absurd (notLater (has, later))) (λ isEarlier. omega arith)))
+        (λ notLater.
+        extend left time bound earlier (earlier .thread) (earlier .hasEntry) (omega arith)
+        (λ has. by-cases (decLt (time (earlier .thread)) (time bound)) (λ later. absurd (notLater (has, later)))
+        (λ isEarlier. omega arith)))
 
 -- where no lowest thread is found none may be taken
-lowest-none : (logs : List StoredLog) (left : List ℕ) (thread count : ℕ) → lowestFrom logs left thread count ≡ none → (other : ℕ) → thread ≤ other → other < thread + count → mayTake logs left other ≡ false
+lowest-none : (logs : List StoredLog) (left : List ℕ) (thread count : ℕ) → lowestFrom logs left thread count ≡ none →
+    (other : ℕ) → thread ≤ other → other < thread + count → mayTake logs left other ≡ false
 unfolding lowestFrom
 lowest-none logs left thread zero noneFound other over below = absurd (omega arith)
 lowest-none logs left thread (suc count) noneFound other over below =
     by-first (mayTake logs left thread) refl noneFound (λ rest. lowest-none logs left (suc thread) count rest other)
   where
-    by-first : (first : Bool) → mayTake logs left thread ≡ first → cond first (some thread) (lowestFrom logs left (suc thread) count) ≡ none → (lowestFrom logs left (suc thread) count ≡ none → suc thread ≤ other → other < suc thread + count → mayTake logs left other ≡ false) → mayTake logs left other ≡ false
+    by-first : (first : Bool) → mayTake logs left thread ≡ first →
+        cond first (some thread) (lowestFrom logs left (suc thread) count) ≡ none →
+        (lowestFrom logs left (suc thread) count ≡ none → suc thread ≤ other → other < suc thread + count →
+        mayTake logs left other ≡ false) →
+        mayTake logs left other ≡ false
     by-first true may isFirst later = absurd (Option·some-ne-none thread isFirst)
     by-first false mayNot isLater later =
         by-cases
@@ -69,8 +81,10 @@ pub record Lowest (logs : List StoredLog) (left : List ℕ) : Type 0 where
   pub inRange : thread < threadCount
   pub may : mayTake logs left thread ≡ true
 
-module _ (logs : List StoredLog) (present cells final : List ℕ) (undoable : Undoable logs present cells final) (undo : Undo) (midway : Midway logs present final undo) where
-  not-later : (thread first second : ℕ) → first ≤ second → second < leftOf present thread → undoable .time thread first ≤ undoable .time thread second
+module _ (logs : List StoredLog) (present cells final : List ℕ) (undoable : Undoable logs present cells final)
+    (undo : Undo) (midway : Midway logs present final undo) where
+  not-later : (thread first second : ℕ) → first ≤ second → second < leftOf present thread →
+      undoable .time thread first ≤ undoable .time thread second
   not-later thread first second order isPresent =
       by-cases
       (ℕ-discrete first second)
@@ -78,13 +92,15 @@ module _ (logs : List StoredLog) (present cells final : List ℕ) (undoable : Un
       (λ differs. omega (arith, undoable .olderFirst thread first second (omega arith) isPresent))
 
   -- the last entry of the latest time may be taken: an ACQUIRE that a RELEASE waits for would be later
-  latest-takeable : (latest : Latest (leftOf (undo .left)) (λ thread. undoable .time thread (lastOf (undo .left) thread)) threadCount) → Takeable logs (undo .left) (latest .thread)
+  latest-takeable : (latest : Latest (leftOf (undo .left)) (λ thread. undoable .time thread (lastOf (undo .left) thread)) threadCount) →
+      Takeable logs (undo .left) (latest .thread)
   latest-takeable latest = record {
     hasEntry = latest .hasEntry;
     free = λ taker taken pair.
         let inRange = thread-below (undo .left) taker taken (midway .threads) (pair .acquire .isLeft) in
         let notLater = latest .latest taker inRange (omega (arith, pair .acquire .isLeft)) in
-        let pairPresent = handed-moved {second = present} pair (omega (arith, midway .within (latest .thread))) (omega (arith, midway .within taker)) in
+        let pairPresent =
+        handed-moved {second = present} pair (omega (arith, midway .within (latest .thread))) (omega (arith, midway .within taker)) in
         let isLater = undoable .handedFirst (latest .thread) (lastOf (undo .left) (latest .thread)) taker taken pairPresent in
         let notOver = not-later taker taken (lastOf (undo .left) taker) (omega arith) (omega (arith, midway .within taker)) in
         omega arith;
@@ -95,7 +111,9 @@ module _ (logs : List StoredLog) (present cells final : List ℕ) (undoable : Un
   unfolding hasLeft
   progress isLeft =
       let first = someBelow-found threadCount _ isLeft in
-      let latest = find-latest (leftOf (undo .left)) (λ thread. undoable .time thread (lastOf (undo .left) thread)) (first .number) (ltb-true 0 _ (first .holds)) threadCount in
+      let latest =
+      find-latest (leftOf (undo .left)) (λ thread. undoable .time thread (lastOf (undo .left) thread)) (first .number)
+      (ltb-true 0 _ (first .holds)) threadCount in
       by-lowest
       (lowestFrom logs (undo .left) 0 threadCount)
       refl
@@ -103,7 +121,8 @@ module _ (logs : List StoredLog) (present cells final : List ℕ) (undoable : Un
       (thread-below (undo .left) (latest .thread) 0 (midway .threads) (latest .hasEntry))
       (takeable-mayTake logs (undo .left) (midway .threads) (latest .thread) (latest-takeable latest))
     where
-      by-lowest : (found : Option ℕ) → lowestFrom logs (undo .left) 0 threadCount ≡ found → (latest : ℕ) → latest < threadCount → mayTake logs (undo .left) latest ≡ true → Lowest logs (undo .left)
+      by-lowest : (found : Option ℕ) → lowestFrom logs (undo .left) 0 threadCount ≡ found → (latest : ℕ) →
+          latest < threadCount → mayTake logs (undo .left) latest ≡ true → Lowest logs (undo .left)
       by-lowest none noneFound latest inRange may =
           absurd (true≢false (sym may ∙ lowest-none logs (undo .left) 0 threadCount noneFound latest (omega arith) (omega arith)))
       by-lowest (some thread) isFound latest inRange may =
@@ -115,7 +134,8 @@ totalOf : List ℕ → ℕ → ℕ
 totalOf left zero = 0
 totalOf left (suc bound) = leftOf left bound + totalOf left bound
 
-total-bounded : (left : List ℕ) (most : ℕ) (bound : ℕ) → ((thread : ℕ) → thread < bound → leftOf left thread ≤ most) → totalOf left bound ≤ bound * most
+total-bounded : (left : List ℕ) (most : ℕ) (bound : ℕ) → ((thread : ℕ) → thread < bound → leftOf left thread ≤ most) →
+    totalOf left bound ≤ bound * most
 unfolding totalOf
 total-bounded left most zero bounded = omega arith
 total-bounded left most (suc bound) bounded =
@@ -128,7 +148,8 @@ module _ (fewer more : List ℕ) (within : (thread : ℕ) → leftOf fewer threa
   total-within (suc bound) = omega (arith, within bound, total-within bound)
 
   -- where a thread has fewer entries left, and none has more, there are fewer in all
-  total-less : (thread : ℕ) → leftOf fewer thread < leftOf more thread → (bound : ℕ) → thread < bound → totalOf fewer bound < totalOf more bound
+  total-less : (thread : ℕ) → leftOf fewer thread < leftOf more thread → (bound : ℕ) → thread < bound →
+      totalOf fewer bound < totalOf more bound
   unfolding totalOf
   total-less thread less zero below = absurd (omega arith)
   total-less thread less (suc bound) below =
@@ -149,7 +170,9 @@ many-undoing logs zero undo = Undoing.ended
 many-undoing logs (suc count) undo =
     by-lowest (lowestFrom logs (undo .left) 0 threadCount) refl (many-undoing logs count)
   where
-    by-lowest : (found : Option ℕ) → lowestFrom logs (undo .left) 0 threadCount ≡ found → ((after : Undo) → Undoing logs after (takeMany count logs after)) → Undoing logs undo (takeMany count logs (takeFrom logs undo found))
+    by-lowest : (found : Option ℕ) → lowestFrom logs (undo .left) 0 threadCount ≡ found →
+        ((after : Undo) → Undoing logs after (takeMany count logs after)) →
+        Undoing logs undo (takeMany count logs (takeFrom logs undo found))
     by-lowest none noneFound later = later undo
     by-lowest (some thread) isFound later =
         let found = lowest-may logs (undo .left) 0 threadCount thread isFound in
@@ -157,7 +180,8 @@ many-undoing logs (suc count) undo =
 
 module _ (logs : List StoredLog) (present cells final : List ℕ) (undoable : Undoable logs present cells final) where
   -- a lawful take keeps what holds midway, and leaves fewer entries in all
-  pub may-midway : (undo : Undo) → Midway logs present final undo → (thread : ℕ) → mayTake logs (undo .left) thread ≡ true → Midway logs present final (takeLast logs undo thread)
+  pub may-midway : (undo : Undo) → Midway logs present final undo → (thread : ℕ) →
+      mayTake logs (undo .left) thread ≡ true → Midway logs present final (takeLast logs undo thread)
   may-midway undo midway thread may =
       let takeable = mayTake-takeable logs (undo .left) (midway .threads) thread may in
       take-midway
@@ -173,7 +197,8 @@ module _ (logs : List StoredLog) (present cells final : List ℕ) (undoable : Un
       (takeLast logs undo thread)
       (takeLast-taken logs undo thread (midway .threads) (takeable .hasEntry))
 
-  may-less : (undo : Undo) → Midway logs present final undo → (thread : ℕ) → mayTake logs (undo .left) thread ≡ true → totalOf (takeLast logs undo thread .left) threadCount < totalOf (undo .left) threadCount
+  may-less : (undo : Undo) → Midway logs present final undo → (thread : ℕ) → mayTake logs (undo .left) thread ≡ true →
+      totalOf (takeLast logs undo thread .left) threadCount < totalOf (undo .left) threadCount
   may-less undo midway thread may =
       let takeable = mayTake-takeable logs (undo .left) (midway .threads) thread may in
       let take = takeLast-taken logs undo thread (midway .threads) (takeable .hasEntry) in
@@ -187,7 +212,8 @@ module _ (logs : List StoredLog) (present cells final : List ℕ) (undoable : Un
       (thread-below (undo .left) thread 0 (midway .threads) (takeable .hasEntry))
 
   -- as many takes as entries are left, in document 01's order, take them all
-  many-ends : (count : ℕ) (undo : Undo) → Midway logs present final undo → totalOf (undo .left) threadCount ≤ count → hasLeft (takeMany count logs undo) ≡ false
+  many-ends : (count : ℕ) (undo : Undo) → Midway logs present final undo → totalOf (undo .left) threadCount ≤ count →
+      hasLeft (takeMany count logs undo) ≡ false
   unfolding takeMany takeNext
   many-ends zero undo midway enough =
       fails (hasLeft undo) (λ isLeft.
@@ -196,7 +222,10 @@ module _ (logs : List StoredLog) (present cells final : List ℕ) (undoable : Un
   many-ends (suc count) undo midway enough =
       by-lowest (lowestFrom logs (undo .left) 0 threadCount) refl (many-ends count)
     where
-      by-lowest : (found : Option ℕ) → lowestFrom logs (undo .left) 0 threadCount ≡ found → ((after : Undo) → Midway logs present final after → totalOf (after .left) threadCount ≤ count → hasLeft (takeMany count logs after) ≡ false) → hasLeft (takeMany count logs (takeFrom logs undo found)) ≡ false
+      by-lowest : (found : Option ℕ) → lowestFrom logs (undo .left) 0 threadCount ≡ found →
+          ((after : Undo) → Midway logs present final after → totalOf (after .left) threadCount ≤ count →
+          hasLeft (takeMany count logs after) ≡ false) →
+          hasLeft (takeMany count logs (takeFrom logs undo found)) ≡ false
       by-lowest none noneFound later =
           let ends = fails (hasLeft undo) (λ isLeft.
           let lowest = progress logs present cells final undoable undo midway isLeft in

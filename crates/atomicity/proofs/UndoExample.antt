@@ -8,10 +8,12 @@ use native.Mathlib.Decide.{ℕ-discrete, decLt}
 use native.Mathlib.Omega.{arith}
 use lib.ListN.{set, replicate}
 use lib.Seq.{getD-set-other}
-use Rattle.recovery.specs.Undo.{StoredLog, leftOf}
+use Rattle.image.specs.Stored.{StoredLog}
+use Rattle.recovery.specs.Undo.{leftOf}
 use Rattle.atomicity.proofs.Undoable.{Remains, Handed, Below, Oldest, Undoable}
 
--- STORE of cell 5 and RELEASE of lock 0 in thread 0, ACQUIRE of lock 0 and STORE of cell 5 in thread 1: kind, place, value, LSN from slot 1 on
+-- STORE of cell 5 and RELEASE of lock 0 in thread 0, ACQUIRE of lock 0 and STORE of cell 5 in thread 1: kind, place, value, LSN from slot
+-- 1 on
 abbrev exampleLogs : List StoredLog
 exampleLogs =
     record { head = 1; stretch = 0 ∷ 0 ∷ 0 ∷ 0 ∷ 1 ∷ 5 ∷ 7 ∷ 1 ∷ 3 ∷ 0 ∷ 0 ∷ 2 ∷ [] } ∷
@@ -27,7 +29,8 @@ abbrev exampleFinal : List ℕ
 exampleFinal = set (replicate 128 0) 5 7
 
 -- what holds of the four entries holds of every present one
-each-entry : (P : ℕ → ℕ → Type 0) → P 0 0 → P 0 1 → P 1 0 → P 1 1 → (thread index : ℕ) → index < leftOf examplePresent thread → P thread index
+each-entry : (P : ℕ → ℕ → Type 0) → P 0 0 → P 0 1 → P 1 0 → P 1 1 → (thread index : ℕ) →
+    index < leftOf examplePresent thread → P thread index
 each-entry P a b c d zero zero isLeft = a
 each-entry P a b c d zero (suc zero) isLeft = b
 each-entry P a b c d zero (suc (suc index)) isLeft = absurd (omega arith)
@@ -73,7 +76,8 @@ example-handed = record {
 }
 
 -- the first STORE is below both
-example-below : (thread index value : ℕ) → Remains exampleLogs examplePresent thread index 1 5 value → Below exampleLogs examplePresent 0 0 thread index
+example-below : (thread index value : ℕ) → Remains exampleLogs examplePresent thread index 1 5 value →
+    Below exampleLogs examplePresent 0 0 thread index
 example-below thread index value store =
     each-entry
     (λ t i. Remains exampleLogs examplePresent t i 1 5 value → Below exampleLogs examplePresent 0 0 t i)

@@ -7,9 +7,11 @@ use native.Mathlib.Decide.{ℕ-discrete}
 use native.Mathlib.Omega.{arith}
 use lib.ListN.{length, getD}
 use Rattle.sizes.specs.Sizes.{threadCount}
-use Rattle.recovery.specs.Undo.{StoredLog, Undo, storedLog, entryKind, entryPlace, leftOf}
+use Rattle.image.specs.Stored.{StoredLog, storedLog, entryKind, entryPlace}
+use Rattle.recovery.specs.Undo.{Undo, leftOf}
 use Rattle.atomicity.proofs.Undoable.{Remains, Handed, Below, Oldest, Undoable}
-use Rattle.atomicity.proofs.UndoSteps.{lastOf, moved, handed-moved, Takeable, Last, last-says, Taken, taken-within, left-or-last, remains-or-last}
+use Rattle.atomicity.proofs.UndoSteps.{lastOf, moved, handed-moved, Takeable, Last, last-says, Taken, taken-within, left-or-last}
+use Rattle.atomicity.proofs.UndoSteps.{remains-or-last}
 
 -- a STORE of the cell is left
 pub record StoreLeft (logs : List StoredLog) (left : List ℕ) (cell : ℕ) : Type 0 where
@@ -26,7 +28,8 @@ Done logs final undo cell = StoreLeft logs (undo .left) cell ⊎ (getD (undo .ce
 pub record Midway (logs : List StoredLog) (present final : List ℕ) (undo : Undo) : Type 0 where
   pub threads : length (undo .left) ≡ threadCount
   pub within : (thread : ℕ) → leftOf (undo .left) thread ≤ leftOf present thread
-  pub closed : (giver given taker taken : ℕ) → Handed logs present giver given taker taken → taken < leftOf (undo .left) taker → given < leftOf (undo .left) giver
+  pub closed : (giver given taker taken : ℕ) → Handed logs present giver given taker taken →
+      taken < leftOf (undo .left) taker → given < leftOf (undo .left) giver
   pub cellsLength : length (undo .cells) ≡ 128
   pub done : (cell : ℕ) → cell < 128 → Done logs final undo cell
 
@@ -53,7 +56,8 @@ module _ (logs : List StoredLog) (present cells final : List ℕ) (undoable : Un
     below-left (Below.joined one other) isLeft = below-left one (below-left other isLeft)
 
     module _ (thread : ℕ) (takeable : Takeable logs (undo .left) thread) (after : Undo) (take : Taken logs undo thread after) where
-      closed-kept : (giver given taker taken : ℕ) → Handed logs present giver given taker taken → taken < leftOf (after .left) taker → given < leftOf (after .left) giver
+      closed-kept : (giver given taker taken : ℕ) → Handed logs present giver given taker taken →
+          taken < leftOf (after .left) taker → given < leftOf (after .left) giver
       closed-kept giver given taker taken pair isLeft =
           let acquireLeft : taken < leftOf (undo .left) taker = omega (arith, taken-within logs undo thread after take taker) in
           let releaseLeft = midway .closed giver given taker taken pair acquireLeft in
@@ -68,13 +72,15 @@ module _ (logs : List StoredLog) (present cells final : List ℕ) (undoable : Un
       -- if the entry taken is a STORE of the cell, the oldest one is still left or is the one taken
       done-store : (cell value : ℕ) → cell < 128 → Last logs undo thread 1 cell value → Done logs final after cell
       done-store cell value inRange store =
-          let stored : Remains logs present thread (lastOf (undo .left) thread) 1 cell value = moved store (omega (arith, store .isLeft, midway .within thread)) in
+          let stored : Remains logs present thread (lastOf (undo .left) thread) 1 cell value =
+          moved store (omega (arith, store .isLeft, midway .within thread)) in
           ⊎-elim
           (λ untouched. absurd (untouched .noStore thread (lastOf (undo .left) thread) value stored))
           (λ oldest. by-oldest oldest (below-left (oldest .below thread (lastOf (undo .left) thread) value stored) (store .isLeft)))
           (undoable .settled cell inRange)
         where
-          by-oldest : (oldest : Oldest logs present final cell) → oldest .index < leftOf (undo .left) (oldest .thread) → Done logs final after cell
+          by-oldest : (oldest : Oldest logs present final cell) → oldest .index < leftOf (undo .left) (oldest .thread) →
+              Done logs final after cell
           by-oldest oldest isLeft =
               ⊎-elim
               (λ still. inl (record { thread = oldest .thread; index = oldest .index; value = getD final cell 0; store = still }))
@@ -96,10 +102,12 @@ module _ (logs : List StoredLog) (present cells final : List ℕ) (undoable : Un
       done-kept cell inRange =
           by-cases
           (ℕ-discrete (entryKind (storedLog logs thread) (lastOf (undo .left) thread)) 1)
-          (λ isStore. by-cases (ℕ-discrete (entryPlace (storedLog logs thread) (lastOf (undo .left) thread)) cell) (of-cell isStore) of-other)
+          (λ isStore. by-cases (ℕ-discrete (entryPlace (storedLog logs thread) (lastOf (undo .left) thread)) cell)
+          (of-cell isStore) of-other)
           (λ other. done-other cell inRange (λ value store. other (store .isKind)))
         where
-          of-cell : entryKind (storedLog logs thread) (lastOf (undo .left) thread) ≡ 1 → entryPlace (storedLog logs thread) (lastOf (undo .left) thread) ≡ cell → Done logs final after cell
+          of-cell : entryKind (storedLog logs thread) (lastOf (undo .left) thread) ≡ 1 →
+              entryPlace (storedLog logs thread) (lastOf (undo .left) thread) ≡ cell → Done logs final after cell
           of-cell isStore isCell = done-store cell _ inRange (last-says logs undo thread 1 cell (takeable .hasEntry) isStore isCell)
 
           of-other : ¬ (entryPlace (storedLog logs thread) (lastOf (undo .left) thread) ≡ cell) → Done logs final after cell

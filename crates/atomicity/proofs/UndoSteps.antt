@@ -13,7 +13,8 @@ use borrow.Author.Tests.{eqb-true, eqb-false, eq-eqb, ne-eqb, ltb-true, lt-ltb, 
 use Rattle.sizes.specs.Sizes.{threadCount}
 use Rattle.answer.specs.Lists.{someBelow}
 use Rattle.answer.proofs.BelowLaws.{someBelow-found, found-someBelow}
-use Rattle.recovery.specs.Undo.{StoredLog, Undo, storedLog, entryKind, entryPlace, entryValue, leftOf, hasLaterAcquire, mayTakeEntry, mayTake, takeLast}
+use Rattle.image.specs.Stored.{StoredLog, storedLog, entryKind, entryPlace, entryValue}
+use Rattle.recovery.specs.Undo.{Undo, leftOf, hasLaterAcquire, mayTakeEntry, mayTake, takeLast}
 use Rattle.atomicity.proofs.Undoable.{Remains, Handed}
 
 -- the index of a thread's last entry left
@@ -29,10 +30,14 @@ thread-below left thread index threads isLeft =
     (λ over. absurd (omega (arith, List·getD-eq-default left 0 {n = thread} (omega arith))))
 
 -- an entry stays what it is where other counts of entries are left, as long as it is left
-pub moved : {logs : List StoredLog} {first second : List ℕ} {thread index kind place value : ℕ} → Remains logs first thread index kind place value → index < leftOf second thread → Remains logs second thread index kind place value
+pub moved : {logs : List StoredLog} {first second : List ℕ} {thread index kind place value : ℕ} →
+    Remains logs first thread index kind place value → index < leftOf second thread →
+    Remains logs second thread index kind place value
 moved entry isLeft = record { isLeft = isLeft; isKind = entry .isKind; isPlace = entry .isPlace; isValue = entry .isValue }
 
-pub handed-moved : {logs : List StoredLog} {first second : List ℕ} {giver given taker taken : ℕ} → Handed logs first giver given taker taken → given < leftOf second giver → taken < leftOf second taker → Handed logs second giver given taker taken
+pub handed-moved : {logs : List StoredLog} {first second : List ℕ} {giver given taker taken : ℕ} →
+    Handed logs first giver given taker taken → given < leftOf second giver → taken < leftOf second taker →
+    Handed logs second giver given taker taken
 handed-moved pair releaseLeft acquireLeft = record {
   lock = pair .lock;
   count = pair .count;
@@ -80,7 +85,9 @@ waits logs left lock count = someBelow threadCount (λ thread. hasLaterAcquire (
 
 module _ (logs : List StoredLog) (left : List ℕ) (threads : length left ≡ threadCount) where
   -- where a RELEASE waits there is an ACQUIRE that it waits for, and where there is one it waits
-  waits-handed : (giver given : ℕ) → given < leftOf left giver → entryKind (storedLog logs giver) given ≡ 3 → waits logs left (entryPlace (storedLog logs giver) given) (entryValue (storedLog logs giver) given) ≡ true → (taker : ℕ) × (taken : ℕ) × Handed logs left giver given taker taken
+  waits-handed : (giver given : ℕ) → given < leftOf left giver → entryKind (storedLog logs giver) given ≡ 3 →
+      waits logs left (entryPlace (storedLog logs giver) given) (entryValue (storedLog logs giver) given) ≡ true →
+      (taker : ℕ) × (taken : ℕ) × Handed logs left giver given taker taken
   unfolding waits hasLaterAcquire
   waits-handed giver given isLeft isKind holds =
       let log = someBelow-found threadCount _ holds in
@@ -98,7 +105,8 @@ module _ (logs : List StoredLog) (left : List ℕ) (threads : length left ≡ th
         },
       )
 
-  handed-waits : (giver given taker taken : ℕ) → Handed logs left giver given taker taken → waits logs left (entryPlace (storedLog logs giver) given) (entryValue (storedLog logs giver) given) ≡ true
+  handed-waits : (giver given taker taken : ℕ) → Handed logs left giver given taker taken →
+      waits logs left (entryPlace (storedLog logs giver) given) (entryValue (storedLog logs giver) given) ≡ true
   unfolding waits hasLaterAcquire
   handed-waits giver given taker taken pair =
       found-someBelow
@@ -129,7 +137,10 @@ module _ (logs : List StoredLog) (left : List ℕ) (threads : length left ≡ th
             ∙ chosen _ _ (parts .1) (eq-eqb _ _ (pair .release .isKind)));
       }
 
-  not-waiting : (thread : ℕ) → Takeable logs left thread → entryKind (storedLog logs thread) (lastOf left thread) ≡ 3 → waits logs left (entryPlace (storedLog logs thread) (lastOf left thread)) (entryValue (storedLog logs thread) (lastOf left thread)) ≡ true → ⊥
+  not-waiting : (thread : ℕ) → Takeable logs left thread → entryKind (storedLog logs thread) (lastOf left thread) ≡ 3 →
+      waits logs left (entryPlace (storedLog logs thread) (lastOf left thread))
+      (entryValue (storedLog logs thread) (lastOf left thread)) ≡ true →
+      ⊥
   not-waiting thread takeable isRelease waiting =
       let found = waits-handed thread (lastOf left thread) (omega arith) isRelease waiting in
       takeable .free (found .0) (found .1) (found .2)
@@ -145,8 +156,12 @@ module _ (logs : List StoredLog) (left : List ℕ) (threads : length left ≡ th
 abbrev pub Last : List StoredLog → Undo → ℕ → ℕ → ℕ → ℕ → Type 0
 Last logs undo thread kind place value = Remains logs (undo .left) thread (lastOf (undo .left) thread) kind place value
 
-pub last-says : (logs : List StoredLog) (undo : Undo) (thread kind place : ℕ) → 0 < leftOf (undo .left) thread → entryKind (storedLog logs thread) (lastOf (undo .left) thread) ≡ kind → entryPlace (storedLog logs thread) (lastOf (undo .left) thread) ≡ place → Last logs undo thread kind place (entryValue (storedLog logs thread) (lastOf (undo .left) thread))
-last-says logs undo thread kind place hasEntry isKind isPlace = record { isLeft = omega arith; isKind = isKind; isPlace = isPlace; isValue = refl }
+pub last-says : (logs : List StoredLog) (undo : Undo) (thread kind place : ℕ) → 0 < leftOf (undo .left) thread →
+    entryKind (storedLog logs thread) (lastOf (undo .left) thread) ≡ kind →
+    entryPlace (storedLog logs thread) (lastOf (undo .left) thread) ≡ place →
+    Last logs undo thread kind place (entryValue (storedLog logs thread) (lastOf (undo .left) thread))
+last-says logs undo thread kind place hasEntry isKind isPlace =
+    record { isLeft = omega arith; isKind = isKind; isPlace = isPlace; isValue = refl }
 
 -- what an undo is after the last entry of a thread is taken: that entry is gone, and a STORE's value is written back
 pub record Taken (logs : List StoredLog) (undo : Undo) (thread : ℕ) (after : Undo) : Type 0 where
@@ -157,7 +172,8 @@ pub record Taken (logs : List StoredLog) (undo : Undo) (thread : ℕ) (after : U
   pub put : (cell value : ℕ) → cell < length (undo .cells) → Last logs undo thread 1 cell value → getD (after .cells) cell 0 ≡ value
   pub kept : (cell : ℕ) → ((value : ℕ) → Last logs undo thread 1 cell value → ⊥) → getD (after .cells) cell 0 ≡ getD (undo .cells) cell 0
 
-pub takeLast-taken : (logs : List StoredLog) (undo : Undo) (thread : ℕ) → length (undo .left) ≡ threadCount → 0 < leftOf (undo .left) thread → Taken logs undo thread (takeLast logs undo thread)
+pub takeLast-taken : (logs : List StoredLog) (undo : Undo) (thread : ℕ) → length (undo .left) ≡ threadCount →
+    0 < leftOf (undo .left) thread → Taken logs undo thread (takeLast logs undo thread)
 unfolding takeLast
 takeLast-taken logs undo thread threads hasEntry = record {
   threads = simp length-set threads;
@@ -172,7 +188,8 @@ takeLast-taken logs undo thread threads hasEntry = record {
   kept = λ cell noStore.
       by-cases
       (ℕ-discrete (entryKind (storedLog logs thread) (lastOf (undo .left) thread)) 1)
-      (λ isStore. rw (eq-eqb _ _ isStore) (getD-set-other (undo .cells) _ cell _ 0 (λ isCell. noStore _ (last-says logs undo thread 1 cell hasEntry isStore (sym isCell)))))
+      (λ isStore. rw (eq-eqb _ _ isStore)
+      (getD-set-other (undo .cells) _ cell _ 0 (λ isCell. noStore _ (last-says logs undo thread 1 cell hasEntry isStore (sym isCell)))))
       (λ isOther. rw (ne-eqb _ _ isOther));
 }
 
@@ -186,7 +203,8 @@ module _ (logs : List StoredLog) (undo : Undo) (thread : ℕ) (after : Undo) (ta
       (λ differs. omega (arith, take .others other differs))
 
   -- an entry that was left is left, or is the one taken
-  pub left-or-last : (other index : ℕ) → index < leftOf (undo .left) other → (index < leftOf (after .left) other) ⊎ ((other ≡ thread) × (index ≡ lastOf (undo .left) thread))
+  pub left-or-last : (other index : ℕ) → index < leftOf (undo .left) other →
+      (index < leftOf (after .left) other) ⊎ ((other ≡ thread) × (index ≡ lastOf (undo .left) thread))
   left-or-last other index isLeft =
       by-cases
       (ℕ-discrete other thread)
@@ -197,7 +215,8 @@ module _ (logs : List StoredLog) (undo : Undo) (thread : ℕ) (after : Undo) (ta
       is-last same gone = omega (arith, ap (leftOf (undo .left)) same, ap (leftOf (after .left)) same)
 
   -- so for what it says
-  pub remains-or-last : {other index kind place value : ℕ} → Remains logs (undo .left) other index kind place value → Remains logs (after .left) other index kind place value ⊎ Last logs undo thread kind place value
+  pub remains-or-last : {other index kind place value : ℕ} → Remains logs (undo .left) other index kind place value →
+      Remains logs (after .left) other index kind place value ⊎ Last logs undo thread kind place value
   remains-or-last {other} {index} {kind} {place} {value} entry =
       ⊎-elim
       (λ still. inl (moved entry still))

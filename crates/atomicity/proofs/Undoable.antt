@@ -6,7 +6,8 @@ use mathlib.Core.Logic.{_⊎_}
 use mathlib.Core.List.{List}
 use lib.ListN.{length, getD}
 use Rattle.sizes.specs.Sizes.{threadCount}
-use Rattle.recovery.specs.Undo.{StoredLog, storedLog, entryKind, entryPlace, entryValue, leftOf}
+use Rattle.image.specs.Stored.{StoredLog, storedLog, entryKind, entryPlace, entryValue}
+use Rattle.recovery.specs.Undo.{leftOf}
 
 -- the thread's entry at this index is left, and says this; with the present entries for what is left, it is present
 pub record Remains (logs : List StoredLog) (left : List ℕ) (thread index kind place value : ℕ) : Type 0 where

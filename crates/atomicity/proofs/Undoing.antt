@@ -13,8 +13,10 @@ use Rattle.sizes.specs.Sizes.{threadCount}
 use Rattle.answer.specs.Lists.{someBelow}
 use Rattle.answer.specs.Refusals.{unless}
 use Rattle.answer.specs.declared.Answer.the-variants.{Accepted}
-use Rattle.recovery.specs.Recover.{isBadHead, hasBadEntry, imageTests, recoverTests, recoverOf}
-use Rattle.recovery.specs.Undo.{StoredLog, Undo, storedLog, storedLogs, takeMany, undoStart, undone, hasLeft}
+use Rattle.image.specs.Stored.{StoredLog, storedLog, storedLogs}
+use Rattle.image.specs.Tests.{isBadHead, hasBadEntry, imageTests}
+use Rattle.recovery.specs.Recover.{recoverTests, recoverOf}
+use Rattle.recovery.specs.Undo.{Undo, takeMany, undoStart, undone, hasLeft}
 use Rattle.atomicity.specs.AnyOrder.{Undoing}
 use Rattle.atomicity.proofs.Undoable.{Undoable}
 use Rattle.atomicity.proofs.UndoSteps.{thread-below}
@@ -35,7 +37,8 @@ module _ (logs : List StoredLog) (present cells final : List ℕ) (undoable : Un
       (end .cells)
       final
       (midway .cellsLength ∙ sym (undoable .finalLength))
-      (λ cell below. ⊎-elim (λ found. absurd (no-store found)) (λ asWanted. asWanted) (midway .done cell (omega (arith, midway .cellsLength))))
+      (λ cell below.
+      ⊎-elim (λ found. absurd (no-store found)) (λ asWanted. asWanted) (midway .done cell (omega (arith, midway .cellsLength))))
     where
       no-store : {cell : ℕ} → StoreLeft logs (end .left) cell → ⊥
       no-store found =
@@ -47,7 +50,8 @@ module _ (logs : List StoredLog) (present cells final : List ℕ) (undoable : Un
   any-order end undoing ends = midway-ends end (undoing-midway undoing (start-midway logs present cells final undoable)) ends
 
   -- document 01's order takes all present entries, and ends in the final cells
-  pub in-order : (hasLeft (takeMany 256 logs (record { left = present; cells = cells })) ≡ false) × (takeMany 256 logs (record { left = present; cells = cells }) .cells ≡ final)
+  pub in-order : (hasLeft (takeMany 256 logs (record { left = present; cells = cells })) ≡ false) ×
+      (takeMany 256 logs (record { left = present; cells = cells }) .cells ≡ final)
   in-order =
       let taken = all-taken logs present cells final undoable in
       (taken, any-order _ (many-undoing logs 256 (record { left = present; cells = cells })) taken)

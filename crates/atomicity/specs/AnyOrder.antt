@@ -7,7 +7,8 @@ use lib.ListN.{length, take}
 use Rattle.sizes.specs.Sizes.{threadCount}
 use Rattle.machine.specs.Image.{imageOf}
 use Rattle.machine.specs.Runs.{Step}
-use Rattle.recovery.specs.Undo.{StoredLog, Undo, storedLogs, mayTake, takeLast, undoStart, hasLeft}
+use Rattle.image.specs.Stored.{StoredLog, storedLogs}
+use Rattle.recovery.specs.Undo.{Undo, mayTake, takeLast, undoStart, hasLeft}
 use Rattle.reference.specs.Reference.{cellsOf}
 use Rattle.atomicity.specs.History.{machineAfter, bookAfter}
 
@@ -15,7 +16,8 @@ use Rattle.atomicity.specs.History.{machineAfter, bookAfter}
 -- lock with a larger count remains
 pub data Undoing (logs : List StoredLog) : Undo → Undo → Type 0 where
   ended : {undo : Undo} → Undoing logs undo undo
-  taking : {undo end : Undo} (thread : ℕ) → thread < threadCount → mayTake logs (undo .left) thread ≡ true → Undoing logs (takeLast logs undo thread) end → Undoing logs undo end
+  taking : {undo end : Undo} (thread : ℕ) → thread < threadCount → mayTake logs (undo .left) thread ≡ true →
+      Undoing logs (takeLast logs undo thread) end → Undoing logs undo end
 
 -- for images that the machine makes, every lawful order that takes all present entries ends in the reference model's cells
 abbrev pub AnyOrder : Type 0

@@ -1,1 +1,1 @@
-// The claims about the machine and its recovery, and their proofs. It holds no code: the claims are in specs/, the proofs in proofs/.
+// Demand 3 and the law on races: the claims and their proofs. It holds no code: the claims are in specs/, the proofs in proofs/.

@@ -7,13 +7,15 @@ use mathlib.Core.Path.{_≡_, refl, sym, ap, _∙_}
 use mathlib.Core.Logic.{by-cases}
 use mathlib.Core.Bool.{Bool, true, false, cond, _&&_, false≢true}
 use mathlib.Core.List.{List, _++_}
-use lib.ListN.{length, getD, set, drop, length-set, length-append, length-drop, length-replicate, getD-replicate, List·getD-eq-default}
+use lib.ListN.{length, getD, set, drop, length-set, length-replicate, List·getD-eq-default}
 use lib.Seq.{set-out, getD-set-same, getD-set-other}
 use lib.Dec.{eqb}
 use borrow.Author.Tests.{lt-ltb, le-ltb, eq-eqb, ne-eqb}
 use Rattle.sizes.specs.Sizes.{threadCount}
-use Rattle.answer.proofs.ListLaws.{getD-set, getD-unset, getD-blank, length-setFrom, getD-setFrom, getD-clearFrom, setFrom-none, length-mixFrom, getD-mixFrom, mixFrom-none, partly}
-use Rattle.cache.specs.Cache.{cellCount, lineCount, lineOf, pendingPlace, cachedAt, persistedAt, isDurable, isPending, cacheOf, storeOf, flushOf, fenceOf, evictOf, persistedInto}
+use Rattle.answer.proofs.ListLaws.{getD-unset, length-setFrom, getD-setFrom, getD-clearFrom, setFrom-none, length-mixFrom, getD-mixFrom}
+use Rattle.answer.proofs.ListLaws.{mixFrom-none, partly}
+use Rattle.cache.specs.Cache.{cellCount, lineCount, lineOf, pendingPlace, cachedAt, persistedAt, isDurable, isPending, cacheOf}
+use Rattle.cache.specs.Cache.{storeOf, flushOf, fenceOf, evictOf, persistedInto}
 use Rattle.cache.specs.declared.Cache.{Cache}
 use Rattle.cache.proofs.Lines.{copied, copied-starts, copied-turn, copied-done}
 
@@ -74,26 +76,12 @@ module _ (words : List ℕ) where
   unfolding cacheOf
   cacheOf-persisted cell = refl
 
-  pub cacheOf-durable : (cell : ℕ) → cell < cellCount → isDurable (cacheOf words) cell ≡ true
-  unfolding cacheOf
-  cacheOf-durable cell below = getD-replicate cellCount cell true false below
-
-  pub cacheOf-pending : (thread line : ℕ) → isPending (cacheOf words) thread line ≡ false
-  unfolding cacheOf
-  cacheOf-pending thread line = getD-blank (threadCount * lineCount) (pendingPlace thread line) false
-
   pub cacheOf-kept : DurableKept (cacheOf words)
   unfolding cacheOf
   cacheOf-kept = record { kept = λ cell durable. refl }
 
 -- ---- past the last cell and the last thread
 module _ (cache : Cache) (sized : Sized cache) where
-  pub cachedAt-out : (cell : ℕ) → cellCount ≤ cell → cachedAt cache cell ≡ 0
-  cachedAt-out cell out = List·getD-eq-default (cache .cached) 0 {n = cell} (omega (arith, sized .cached-long))
-
-  pub persistedAt-out : (cell : ℕ) → cellCount ≤ cell → persistedAt cache cell ≡ 0
-  persistedAt-out cell out = List·getD-eq-default (cache .persisted) 0 {n = cell} (omega (arith, sized .persisted-long))
-
   pub isDurable-out : (cell : ℕ) → cellCount ≤ cell → isDurable cache cell ≡ false
   isDurable-out cell out = List·getD-eq-default (cache .durable) false {n = cell} (omega (arith, sized .durable-long))
 
@@ -114,10 +102,6 @@ module _ (cache : Cache) (sized : Sized cache) where
       pending-long = length-setFrom (λ place. eqb (place % lineCount) (lineOf cell)) false 0 (cache .pending) ∙ sized .pending-long;
     }
 
-    pub storeOf-cached : (other : ℕ) → other < cellCount → cachedAt (storeOf cache cell value) other ≡ cond (eqb other cell) value (cachedAt cache other)
-    unfolding storeOf
-    storeOf-cached other below = getD-set (cache .cached) cell value other 0 (omega (arith, sized .cached-long))
-
     pub storeOf-persisted : (other : ℕ) → persistedAt (storeOf cache cell value) other ≡ persistedAt cache other
     unfolding storeOf
     storeOf-persisted other = refl
@@ -125,12 +109,6 @@ module _ (cache : Cache) (sized : Sized cache) where
     pub storeOf-durable : (other : ℕ) → isDurable (storeOf cache cell value) other ≡ cond (eqb other cell) false (isDurable cache other)
     unfolding storeOf
     storeOf-durable other = getD-unset (cache .durable) cell other false
-
-    pub storeOf-pending : (thread line : ℕ) → line < lineCount → isPending (storeOf cache cell value) thread line ≡ cond (eqb line (lineOf cell)) false (isPending cache thread line)
-    unfolding storeOf
-    storeOf-pending thread line within =
-        getD-clearFrom (λ place. eqb (place % lineCount) (lineOf cell)) (cache .pending) (pendingPlace thread line) false ∙
-        ap (λ (k : ℕ). cond (eqb k (lineOf cell)) false (isPending cache thread line)) (omega arith)
 
     -- a cell that is out of range changes nothing
     pub storeOf-out : cellCount ≤ cell → storeOf cache cell value ≡ cache
@@ -159,7 +137,8 @@ module _ (cache : Cache) (sized : Sized cache) where
 
   module _ (thread line : ℕ) where
     -- what holds of the cache with the flush pending, where the thread and the line are in range, and of the cache as it was
-    flushOf-by : (P : Cache → Type 0) → (thread < threadCount → line < lineCount → P (flushed cache thread line)) → P cache → P (flushOf cache thread line)
+    flushOf-by : (P : Cache → Type 0) → (thread < threadCount → line < lineCount → P (flushed cache thread line)) →
+        P cache → P (flushOf cache thread line)
     unfolding flushOf
     flushOf-by P put out =
         by-cases (decLt thread threadCount)
@@ -190,22 +169,25 @@ module _ (cache : Cache) (sized : Sized cache) where
     pub flushOf-persisted : (cell : ℕ) → persistedAt (flushOf cache thread line) cell ≡ persistedAt cache cell
     flushOf-persisted cell = flushOf-by (λ c. persistedAt c cell ≡ persistedAt cache cell) (λ below within. refl) refl
 
-    pub flushOf-durable : (cell : ℕ) → isDurable (flushOf cache thread line) cell ≡ isDurable cache cell
-    flushOf-durable cell = flushOf-by (λ c. isDurable c cell ≡ isDurable cache cell) (λ below within. refl) refl
-
-    pub flushOf-pending : (other at : ℕ) → other < threadCount → at < lineCount → isPending (flushOf cache thread line) other at ≡ cond (eqb other thread && eqb at line) true (isPending cache other at)
+    -- no proof cites this law or that of a fence below: they notice wrong definitions of the marks (docs/WRONG-DEFINITIONS.md)
+    pub flushOf-pending : (other at : ℕ) → other < threadCount → at < lineCount →
+        isPending (flushOf cache thread line) other at ≡ cond (eqb other thread && eqb at line) true (isPending cache other at)
     flushOf-pending other at below within =
         by-cases (ℕ-discrete other thread)
         (λ same.
         by-cases (ℕ-discrete at line)
-        (λ here. rw (eq-eqb other thread same, eq-eqb at line here) (ap (λ (c : Cache). isPending c other at) (flushOf-in (omega arith) (omega arith)) ∙ rw (same, here) (getD-set-same (cache .pending) (pendingPlace thread line) true false (omega (arith, sized .pending-long)))))
+        (λ here. rw (eq-eqb other thread same, eq-eqb at line here)
+        (ap (λ (c : Cache). isPending c other at) (flushOf-in (omega arith) (omega arith)) ∙
+        rw (same, here) (getD-set-same (cache .pending) (pendingPlace thread line) true false (omega (arith, sized .pending-long)))))
         (λ elsewhere. rw (eq-eqb other thread same, ne-eqb at line elsewhere) (kept (omega arith))))
         (λ differs. rw (ne-eqb other thread differs) (kept (omega arith)))
       where
-        kept : (thread < threadCount → line < lineCount → pendingPlace other at ≡ pendingPlace thread line → ⊥) → isPending (flushOf cache thread line) other at ≡ isPending cache other at
+        kept : (thread < threadCount → line < lineCount → pendingPlace other at ≡ pendingPlace thread line → ⊥) →
+            isPending (flushOf cache thread line) other at ≡ isPending cache other at
         kept differs =
             flushOf-by (λ c. isPending c other at ≡ isPending cache other at)
-            (λ inThread inLine. getD-set-other (cache .pending) (pendingPlace thread line) (pendingPlace other at) true false (differs inThread inLine))
+            (λ inThread inLine.
+            getD-set-other (cache .pending) (pendingPlace thread line) (pendingPlace other at) true false (differs inThread inLine))
             refl
 
     pub flushOf-kept : DurableKept cache → DurableKept (flushOf cache thread line)
@@ -218,7 +200,8 @@ module _ (cache : Cache) (sized : Sized cache) where
     unfolding fenceOf
     fenceOf-sized = record {
       cached-long = sized .cached-long;
-      persisted-long = length-mixFrom (λ cell. isPending cache thread (lineOf cell)) 0 (cache .cached) (cache .persisted) ∙ sized .persisted-long;
+      persisted-long =
+          length-mixFrom (λ cell. isPending cache thread (lineOf cell)) 0 (cache .cached) (cache .persisted) ∙ sized .persisted-long;
       durable-long = length-setFrom (λ cell. isPending cache thread (lineOf cell)) true 0 (cache .durable) ∙ sized .durable-long;
       pending-long = length-setFrom (λ place. eqb (place / lineCount) thread) false 0 (cache .pending) ∙ sized .pending-long;
     }
@@ -227,17 +210,21 @@ module _ (cache : Cache) (sized : Sized cache) where
     unfolding fenceOf
     fenceOf-cached cell = refl
 
-    pub fenceOf-persisted : (cell : ℕ) → persistedAt (fenceOf cache thread) cell ≡ cond (isPending cache thread (lineOf cell)) (cachedAt cache cell) (persistedAt cache cell)
+    pub fenceOf-persisted : (cell : ℕ) →
+        persistedAt (fenceOf cache thread) cell ≡ cond (isPending cache thread (lineOf cell)) (cachedAt cache cell) (persistedAt cache cell)
     unfolding fenceOf
     fenceOf-persisted cell =
-        getD-mixFrom (λ k. isPending cache thread (lineOf k)) (cache .cached) (cache .persisted) cell 0 (sized .cached-long ∙ sym (sized .persisted-long))
+        getD-mixFrom (λ k. isPending cache thread (lineOf k)) (cache .cached) (cache .persisted) cell 0
+        (sized .cached-long ∙ sym (sized .persisted-long))
 
-    pub fenceOf-durable : (cell : ℕ) → cell < cellCount → isDurable (fenceOf cache thread) cell ≡ cond (isPending cache thread (lineOf cell)) true (isDurable cache cell)
+    pub fenceOf-durable : (cell : ℕ) → cell < cellCount →
+        isDurable (fenceOf cache thread) cell ≡ cond (isPending cache thread (lineOf cell)) true (isDurable cache cell)
     unfolding fenceOf
     fenceOf-durable cell below =
         getD-setFrom (λ k. isPending cache thread (lineOf k)) true (cache .durable) cell false (omega (arith, sized .durable-long))
 
-    pub fenceOf-pending : (other line : ℕ) → line < lineCount → isPending (fenceOf cache thread) other line ≡ cond (eqb other thread) false (isPending cache other line)
+    pub fenceOf-pending : (other line : ℕ) → line < lineCount →
+        isPending (fenceOf cache thread) other line ≡ cond (eqb other thread) false (isPending cache other line)
     unfolding fenceOf
     fenceOf-pending other line within =
         getD-clearFrom (λ place. eqb (place / lineCount) thread) (cache .pending) (pendingPlace other line) false ∙
@@ -248,8 +235,12 @@ module _ (cache : Cache) (sized : Sized cache) where
     unfolding fenceOf
     fenceOf-out out = λ i. record {
       cached = cache .cached;
-      persisted = mixFrom-none (λ cell. isPending cache thread (lineOf cell)) (cache .cached) (cache .persisted) (λ cell below. isPending-out cache sized thread (lineOf cell) out) i;
-      durable = setFrom-none (λ cell. isPending cache thread (lineOf cell)) true (cache .durable) (λ cell below. isPending-out cache sized thread (lineOf cell) out) i;
+      persisted =
+          mixFrom-none (λ cell. isPending cache thread (lineOf cell)) (cache .cached) (cache .persisted)
+          (λ cell below. isPending-out cache sized thread (lineOf cell) out) i;
+      durable =
+          setFrom-none (λ cell. isPending cache thread (lineOf cell)) true (cache .durable)
+          (λ cell below. isPending-out cache sized thread (lineOf cell) out) i;
       pending =
           setFrom-none (λ place. eqb (place / lineCount) thread) false (cache .pending)
           (λ place below. ne-eqb (place / lineCount) thread (omega (arith, sized .pending-long))) i;
@@ -261,12 +252,14 @@ module _ (cache : Cache) (sized : Sized cache) where
           by-cases (decLt cell cellCount)
           (λ below.
           fenceOf-persisted cell ∙
-          settled (isPending cache thread (lineOf cell)) (isDurable cache cell) (cachedAt cache cell) (persistedAt cache cell) (was .kept cell) (sym (fenceOf-durable cell below) ∙ durable) ∙
+          settled (isPending cache thread (lineOf cell)) (isDurable cache cell) (cachedAt cache cell)
+          (persistedAt cache cell) (was .kept cell) (sym (fenceOf-durable cell below) ∙ durable) ∙
           sym (fenceOf-cached cell))
           (λ past. absurd (false≢true (sym (isDurable-out (fenceOf cache thread) fenceOf-sized cell (omega arith)) ∙ durable)));
     }
       where
-        settled : (pending durable : Bool) (cached persisted : ℕ) → (durable ≡ true → persisted ≡ cached) → cond pending true durable ≡ true → cond pending cached persisted ≡ cached
+        settled : (pending durable : Bool) (cached persisted : ℕ) → (durable ≡ true → persisted ≡ cached) →
+            cond pending true durable ≡ true → cond pending cached persisted ≡ cached
         settled true durable cached persisted was now = refl
         settled false durable cached persisted was now = was now
 
@@ -286,7 +279,8 @@ module _ (cache : Cache) (sized : Sized cache) where
     unfolding evictOf
     evictOf-cached cell = refl
 
-    pub evictOf-persisted : (cell : ℕ) → persistedAt (evictOf cache line) cell ≡ cond (eqb (lineOf cell) line) (cachedAt cache cell) (persistedAt cache cell)
+    pub evictOf-persisted : (cell : ℕ) →
+        persistedAt (evictOf cache line) cell ≡ cond (eqb (lineOf cell) line) (cachedAt cache cell) (persistedAt cache cell)
     unfolding evictOf
     evictOf-persisted cell =
         getD-mixFrom (λ k. eqb (lineOf k) line) (cache .cached) (cache .persisted) cell 0 (sized .cached-long ∙ sym (sized .persisted-long))
@@ -294,10 +288,6 @@ module _ (cache : Cache) (sized : Sized cache) where
     pub evictOf-durable : (cell : ℕ) → isDurable (evictOf cache line) cell ≡ isDurable cache cell
     unfolding evictOf
     evictOf-durable cell = refl
-
-    pub evictOf-pending : (thread other : ℕ) → isPending (evictOf cache line) thread other ≡ isPending cache thread other
-    unfolding evictOf
-    evictOf-pending thread other = refl
 
     -- a line that is out of range changes nothing
     pub evictOf-out : lineCount ≤ line → evictOf cache line ≡ cache
@@ -315,7 +305,8 @@ module _ (cache : Cache) (sized : Sized cache) where
     evictOf-kept was = record {
       kept = λ cell durable.
           evictOf-persisted cell ∙
-          either (eqb (lineOf cell) line) (cachedAt cache cell) (persistedAt cache cell) (was .kept cell (sym (evictOf-durable cell) ∙ durable)) ∙
+          either (eqb (lineOf cell) line) (cachedAt cache cell) (persistedAt cache cell)
+          (was .kept cell (sym (evictOf-durable cell) ∙ durable)) ∙
           sym (evictOf-cached cell);
     }
       where
@@ -326,24 +317,33 @@ module _ (cache : Cache) (sized : Sized cache) where
     as-long : length (cache .cached) ≡ length (cache .persisted)
     as-long = sized .cached-long ∙ sym (sized .persisted-long)
 
-    upTo : (place end : ℕ) → place ≡ end → withPersisted cache (partly place (copied line (cache .cached) (cache .persisted)) (cache .persisted)) ≡ withPersisted cache (partly end (copied line (cache .cached) (cache .persisted)) (cache .persisted))
-    upTo place end same = ap (λ (k : ℕ). withPersisted cache (partly k (copied line (cache .cached) (cache .persisted)) (cache .persisted))) same
+    upTo : (place end : ℕ) → place ≡ end →
+        withPersisted cache (partly place (copied line (cache .cached) (cache .persisted)) (cache .persisted)) ≡
+        withPersisted cache (partly end (copied line (cache .cached) (cache .persisted)) (cache .persisted))
+    upTo place end same =
+        ap (λ (k : ℕ). withPersisted cache (partly k (copied line (cache .cached) (cache .persisted)) (cache .persisted))) same
 
     -- after so many of a line's cells, the persisted contents are those after the whole line up to there
-    evictCellsOf-partly : (count : ℕ) → line < lineCount → count ≤ 8 → evictCellsOf cache line count ≡ withPersisted cache (partly (line * 8 + count) (copied line (cache .cached) (cache .persisted)) (cache .persisted))
+    evictCellsOf-partly : (count : ℕ) → line < lineCount → count ≤ 8 →
+        evictCellsOf cache line count ≡
+        withPersisted cache (partly (line * 8 + count) (copied line (cache .cached) (cache .persisted)) (cache .persisted))
     unfolding evictCellsOf
     evictCellsOf-partly zero within most =
-        ap (withPersisted cache) (copied-starts line (cache .cached) (cache .persisted) as-long) ∙ upTo (line * 8) (line * 8 + 0) (omega arith)
+        ap (withPersisted cache) (copied-starts line (cache .cached) (cache .persisted) as-long) ∙
+        upTo (line * 8) (line * 8 + 0) (omega arith)
     evictCellsOf-partly (suc count) within most =
         ap (λ (c : Cache). evictCellOf c (line * 8 + count)) (evictCellsOf-partly count within (omega arith)) ∙
-        ap (withPersisted cache) (copied-turn line (cache .cached) (cache .persisted) as-long (line * 8 + count) (omega arith) (omega arith) (omega (arith, sized .persisted-long))) ∙
+        ap (withPersisted cache)
+        (copied-turn line (cache .cached) (cache .persisted) as-long (line * 8 + count) (omega arith) (omega arith)
+        (omega (arith, sized .persisted-long))) ∙
         upTo (line * 8 + count + 1) (line * 8 + suc count) (omega arith)
 
-    -- evicting a line is evicting its eight cells in order
+    -- evicting a line is evicting its eight cells in order: it waits for a step that evicts a single cell
     pub evictOf-cells : line < lineCount → evictOf cache line ≡ evictCellsOf cache line 8
     unfolding evictOf
     evictOf-cells within =
-        sym (evictCellsOf-partly 8 within (omega arith) ∙ ap (withPersisted cache) (copied-done line (cache .cached) (cache .persisted) as-long (line * 8 + 8) (omega arith)))
+        sym (evictCellsOf-partly 8 within (omega arith) ∙
+        ap (withPersisted cache) (copied-done line (cache .cached) (cache .persisted) as-long (line * 8 + 8) (omega arith)))
 
 -- ---- the persisted cells, written to a part of an image
 module _ (cache : Cache) (part : List ℕ) where
@@ -354,9 +354,3 @@ module _ (cache : Cache) (part : List ℕ) where
   pub persistedInto-long : cellCount ≤ length part → persistedInto cache part ≡ cache .persisted ++ drop cellCount part
   unfolding persistedInto
   persistedInto-long fits = rw (le-ltb (length part) cellCount fits)
-
-  pub persistedInto-length : Sized cache → length (persistedInto cache part) ≡ length part
-  persistedInto-length sized =
-      by-cases (decLt (length part) cellCount)
-      (λ short. ap length (persistedInto-short short))
-      (λ fits. ap length (persistedInto-long (omega arith)) ∙ simp (length-append, length-drop) (omega (arith, sized .persisted-long)))

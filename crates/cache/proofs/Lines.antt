@@ -9,11 +9,13 @@ use lib.Dec.{eqb}
 use borrow.Author.Tests.{eq-eqb, ne-eqb}
 use Rattle.sizes.specs.Sizes.{threadCount}
 use Rattle.answer.specs.Lists.{setFrom, mixFrom}
-use Rattle.answer.proofs.ListLaws.{length-setFrom, getD-setFrom, getD-setFrom-kept, getD-clearFrom, length-mixFrom, getD-mixFrom, partly, length-partly, partly-to, partly-start, partly-write, partly-keep, partly-done, partly-all}
+use Rattle.answer.proofs.ListLaws.{length-setFrom, getD-setFrom, getD-setFrom-kept, getD-clearFrom, length-mixFrom, getD-mixFrom, partly}
+use Rattle.answer.proofs.ListLaws.{length-partly, partly-to, partly-start, partly-write, partly-keep, partly-done, partly-all}
 use Rattle.cache.specs.Cache.{lineCount, lineOf}
 
 -- ---- two lists that differ in the eight cells of a line alone
-module _ {A : Type 0} (new old : List A) (d : A) (line : ℕ) (long : length new ≡ length old) (outside : (cell : ℕ) → (lineOf cell ≡ line → ⊥) → getD new cell d ≡ getD old cell d) where
+module _ {A : Type 0} (new old : List A) (d : A) (line : ℕ) (long : length new ≡ length old)
+    (outside : (cell : ℕ) → (lineOf cell ≡ line → ⊥) → getD new cell d ≡ getD old cell d) where
   line-starts : old ≡ partly (line * 8) new old
   line-starts = partly-start new old d long (line * 8) (λ cell below. outside cell (omega arith))
 
@@ -21,11 +23,16 @@ module _ {A : Type 0} (new old : List A) (d : A) (line : ℕ) (long : length new
   line-done cell le = partly-done new old d long cell (λ i past. outside i (omega arith))
 
 -- ---- a walk over the lines, each of which it changes or leaves
-module _ {A : Type 0} (new old : List A) (d : A) (line : ℕ) (long : length new ≡ length old) (list : List A) (before : list ≡ partly (line * 8) new old) where
+module _ {A : Type 0} (new old : List A) (d : A) (line : ℕ) (long : length new ≡ length old) (list : List A)
+    (before : list ≡ partly (line * 8) new old) where
   -- the line's cells are written
-  pub walk-turn : (after : List A) → length after ≡ length list → ((cell : ℕ) → lineOf cell ≡ line → getD after cell d ≡ getD new cell d) → ((cell : ℕ) → (lineOf cell ≡ line → ⊥) → getD after cell d ≡ getD list cell d) → after ≡ partly ((line + 1) * 8) new old
+  pub walk-turn : (after : List A) → length after ≡ length list →
+      ((cell : ℕ) → lineOf cell ≡ line → getD after cell d ≡ getD new cell d) →
+      ((cell : ℕ) → (lineOf cell ≡ line → ⊥) → getD after cell d ≡ getD list cell d) →
+      after ≡ partly ((line + 1) * 8) new old
   walk-turn after as-long inside outside =
-      partly-to new old d long (line * 8) ((line + 1) * 8) after (as-long ∙ ap length before ∙ length-partly new old d long (line * 8)) (omega arith)
+      partly-to new old d long (line * 8) ((line + 1) * 8) after
+      (as-long ∙ ap length before ∙ length-partly new old d long (line * 8)) (omega arith)
       (λ cell past less. inside cell (omega arith))
       (λ cell less. outside cell (omega arith) ∙ ap (λ (l : List A). getD l cell d) before)
       (λ cell past. outside cell (omega arith) ∙ ap (λ (l : List A). getD l cell d) before)
@@ -54,7 +61,8 @@ module _ (line : ℕ) (from to : List ℕ) (long : length from ≡ length to) wh
   pub copied-starts : to ≡ partly (line * 8) (copied line from to) to
   copied-starts = line-starts (copied line from to) to 0 line copied-long copied-outside
 
-  pub copied-turn : (cell : ℕ) → line * 8 ≤ cell → cell < line * 8 + 8 → cell < length to → set (partly cell (copied line from to) to) cell (getD from cell 0) ≡ partly (cell + 1) (copied line from to) to
+  pub copied-turn : (cell : ℕ) → line * 8 ≤ cell → cell < line * 8 + 8 → cell < length to →
+      set (partly cell (copied line from to) to) cell (getD from cell 0) ≡ partly (cell + 1) (copied line from to) to
   copied-turn cell past before below =
       partly-write (copied line from to) to 0 copied-long cell (getD from cell 0) below (copied-inside cell (omega arith))
 
@@ -80,7 +88,8 @@ module _ (line : ℕ) (flags : List Bool) where
   pub marked-starts : flags ≡ partly (line * 8) (marked line flags) flags
   marked-starts = line-starts (marked line flags) flags false line marked-long marked-outside
 
-  pub marked-turn : (cell : ℕ) → line * 8 ≤ cell → cell < line * 8 + 8 → cell < length flags → set (partly cell (marked line flags) flags) cell true ≡ partly (cell + 1) (marked line flags) flags
+  pub marked-turn : (cell : ℕ) → line * 8 ≤ cell → cell < line * 8 + 8 → cell < length flags →
+      set (partly cell (marked line flags) flags) cell true ≡ partly (cell + 1) (marked line flags) flags
   marked-turn cell past before below =
       partly-write (marked line flags) flags false marked-long cell true below (marked-inside cell (omega arith) below)
 
@@ -104,12 +113,17 @@ module _ (line : ℕ) (pending : List Bool) (within : line < lineCount) (long : 
       getD-clearFrom (λ k. eqb (k % lineCount) line) pending place false ∙ rw (ne-eqb (place % lineCount) line other)
 
   pub cleared-starts : pending ≡ partly (0 * 16 + line) (cleared line pending) pending
-  cleared-starts = partly-start (cleared line pending) pending false cleared-long (0 * 16 + line) (λ place below. cleared-outside place (omega arith))
+  cleared-starts =
+      partly-start (cleared line pending) pending false cleared-long (0 * 16 + line) (λ place below. cleared-outside place (omega arith))
 
-  pub cleared-turn : (thread : ℕ) → thread < threadCount → set (partly (thread * 16 + line) (cleared line pending) pending) (thread * 16 + line) false ≡ partly ((thread + 1) * 16 + line) (cleared line pending) pending
+  pub cleared-turn : (thread : ℕ) → thread < threadCount →
+      set (partly (thread * 16 + line) (cleared line pending) pending) (thread * 16 + line) false ≡
+      partly ((thread + 1) * 16 + line) (cleared line pending) pending
   cleared-turn thread below =
-      partly-write (cleared line pending) pending false cleared-long (thread * 16 + line) false (omega arith) (cleared-inside (thread * 16 + line) (omega arith)) ∙
-      partly-keep (cleared line pending) pending false cleared-long (thread * 16 + line + 1) ((thread + 1) * 16 + line) (omega arith) (λ place past before. cleared-outside place (omega arith))
+      partly-write (cleared line pending) pending false cleared-long (thread * 16 + line) false (omega arith)
+      (cleared-inside (thread * 16 + line) (omega arith)) ∙
+      partly-keep (cleared line pending) pending false cleared-long (thread * 16 + line + 1) ((thread + 1) * 16 + line)
+      (omega arith) (λ place past before. cleared-outside place (omega arith))
 
   pub cleared-done : (thread : ℕ) → threadCount ≤ thread → partly (thread * 16 + line) (cleared line pending) pending ≡ cleared line pending
   cleared-done thread le = partly-all (cleared line pending) pending false cleared-long (thread * 16 + line) (omega arith)

@@ -8,14 +8,17 @@ use borrow.Author.Tests.{eq-eqb, ne-eqb, le-leb, lt-leb, lt-ltb, le-ltb}
 use lib.ListN.{length, getD, take, drop, drop-of-length-le}
 use Rattle.bytes.specs.Bytes.{indexOf}
 use Rattle.line.specs.Text.{ascii, sameText}
-use Rattle.line.specs.Lines.{digitsAfter, numberIn, kindFrom, kindNamed, afterKey, space, newline, before, after, stepLine, lineOf, firstLine}
+use Rattle.line.specs.Lines.{digitsAfter, numberIn, kindFrom, kindNamed, afterKey, space, newline, before, after, stepLine, lineOf}
+use Rattle.line.specs.Lines.{firstLine}
 use Rattle.line.specs.declared.Line.the-variants.{Unreadable}
 use Rattle.line.specs.declared.Field.{Field}
 use Rattle.line.specs.declared.Field.the-variants.{Number, Nothing}
 use Rattle.line.proofs.TextLaws.{drop-first, part-rest}
 
 -- the number of a name, or what the names after it find
-pub kind-from : (number : ℕ) (name : List ℕ) (names : List (List ℕ)) (text : List ℕ) {found others : Field} → found ≡ cond (sameText text name) (Number number) others → others ≡ kindFrom (suc number) names text → found ≡ kindFrom number (name ∷ names) text
+pub kind-from : (number : ℕ) (name : List ℕ) (names : List (List ℕ)) (text : List ℕ) {found others : Field} →
+    found ≡ cond (sameText text name) (Number number) others → others ≡ kindFrom (suc number) names text →
+    found ≡ kindFrom number (name ∷ names) text
 unfolding kindFrom
 kind-from number name names text first rest = first ∙ ap (cond (sameText text name) (Number number)) rest
 
@@ -45,7 +48,12 @@ module _ (number : ℕ) (text : List ℕ) (i : ℕ) (within : i < length text) w
       → digitsAfter number (drop i text) ≡ digitsAfter (number * 10 + (getD text i 0 - 48)) (drop (i + 1) text)
   unfolding digitsAfter
   digits-on low high small =
-      rw (drop-first text i within, le-leb 48 (getD text i 0) low, lt-ltb (getD text i 0) 58 high, lt-ltb (number * 10 + (getD text i 0 - 48)) (2 ^ 64) small)
+      rw (
+        drop-first text i within,
+        le-leb 48 (getD text i 0) low,
+        lt-ltb (getD text i 0) 58 high,
+        lt-ltb (number * 10 + (getD text i 0 - 48)) (2 ^ 64) small,
+      )
 
   -- a byte below "0"
   pub digits-low : getD text i 0 < 48 → digitsAfter number (drop i text) ≡ Nothing
@@ -58,10 +66,16 @@ module _ (number : ℕ) (text : List ℕ) (i : ℕ) (within : i < length text) w
   digits-high low high = rw (drop-first text i within, le-leb 48 (getD text i 0) low, le-ltb (getD text i 0) 58 high)
 
   -- a digit that takes the number past the largest
-  pub digits-past : 48 ≤ getD text i 0 → getD text i 0 < 58 → 2 ^ 64 ≤ number * 10 + (getD text i 0 - 48) → digitsAfter number (drop i text) ≡ Nothing
+  pub digits-past : 48 ≤ getD text i 0 → getD text i 0 < 58 → 2 ^ 64 ≤ number * 10 + (getD text i 0 - 48) →
+      digitsAfter number (drop i text) ≡ Nothing
   unfolding digitsAfter
   digits-past low high past =
-      rw (drop-first text i within, le-leb 48 (getD text i 0) low, lt-ltb (getD text i 0) 58 high, le-ltb (number * 10 + (getD text i 0 - 48)) (2 ^ 64) past)
+      rw (
+        drop-first text i within,
+        le-leb 48 (getD text i 0) low,
+        lt-ltb (getD text i 0) 58 high,
+        le-ltb (number * 10 + (getD text i 0 - 48)) (2 ^ 64) past,
+      )
 
 -- no digit is left
 pub digits-end : (number : ℕ) (text : List ℕ) (i : ℕ) → length text ≤ i → digitsAfter number (drop i text) ≡ Number number
@@ -75,7 +89,8 @@ module _ (key : List ℕ) (says : List ℕ → Field) (text : List ℕ) where
   no-key differs = rw differs
 
   -- one that does says what the rest says
-  pub key-read : sameText (take (length key) text) key ≡ true → afterKey key says text ≡ says (take (length text - length key) (drop (length key) text))
+  pub key-read : sameText (take (length key) text) key ≡ true →
+      afterKey key says text ≡ says (take (length text - length key) (drop (length key) text))
   unfolding afterKey
   key-read begins = rw (begins, part-rest (length key) text)
 

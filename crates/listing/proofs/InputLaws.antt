@@ -11,7 +11,8 @@ use lib.ListN.{length, take, drop, drop-of-length-le, length-append, length-take
 use lib.Dec.{eqb}
 use Rattle.bytes.specs.Bytes.{indexOf, indexAfter}
 use Rattle.line.specs.Text.{ascii, sameText}
-use Rattle.line.specs.Lines.{space, newline, before, after, names, kindFrom, kindNamed, numberIn, afterKey, stepLine, lineOf, firstLine, unended, linesFrom, linesOf}
+use Rattle.line.specs.Lines.{space, newline, before, after, names, kindFrom, kindNamed, numberIn, afterKey, stepLine, lineOf, firstLine}
+use Rattle.line.specs.Lines.{unended, linesFrom, linesOf}
 use Rattle.line.specs.declared.Field.{Field}
 use Rattle.line.specs.declared.Field.the-variants.{Number, Nothing}
 use Rattle.line.specs.declared.Line.{Line}
@@ -30,7 +31,9 @@ lines-ended line (byte ∷ input) ended = by-byte (eqb byte newline) ended (line
     index = indexOf newline input
 
     by-byte : (ends : Bool) → indexAfter ends index < suc (length input)
-        → (index < length input → linesFrom (line ++ (byte ∷ [])) input ≡ lineOf ((line ++ (byte ∷ [])) ++ take index input) ∷ linesFrom [] (drop (index + 1) input))
+        → (index < length input
+        → linesFrom (line ++ (byte ∷ [])) input ≡ lineOf ((line ++ (byte ∷ [])) ++ take index input) ∷
+        linesFrom [] (drop (index + 1) input))
         → cond ends (lineOf line ∷ linesFrom [] input) (linesFrom (line ++ (byte ∷ [])) input)
         ≡ lineOf (line ++ take (indexAfter ends index) (byte ∷ input)) ∷ linesFrom [] (drop (indexAfter ends index + 1) (byte ∷ input))
     by-byte true ended later = rw (append-nil line)
@@ -74,7 +77,8 @@ never : {A : Type 0} → _≡_ {A = ℕ} 0 1 → A
 never wrong = absurd (omega arith)
 
 -- each field of a step was read
-pub fields-read : (a b c d : Field) {kind thread place value : ℕ} → stepLine a b c d ≡ Step kind thread place value → (a ≡ Number kind) × (b ≡ Number thread) × (c ≡ Number place) × (d ≡ Number value)
+pub fields-read : (a b c d : Field) {kind thread place value : ℕ} → stepLine a b c d ≡ Step kind thread place value →
+    (a ≡ Number kind) × (b ≡ Number thread) × (c ≡ Number place) × (d ≡ Number value)
 unfolding stepLine
 fields-read Nothing b c d step = never (cc)
 fields-read (Number k) Nothing c d step = never (cc)
@@ -87,11 +91,13 @@ pub record Keyed (key : List ℕ) (says : List ℕ → Field) (text : List ℕ) 
   pub begins : take (length key) text ≡ key
   pub said : says (drop (length key) text) ≡ Number number
 
-pub keyed : (key : List ℕ) (says : List ℕ → Field) (text : List ℕ) {number : ℕ} → afterKey key says text ≡ Number number → Keyed key says text number
+pub keyed : (key : List ℕ) (says : List ℕ → Field) (text : List ℕ) {number : ℕ} →
+    afterKey key says text ≡ Number number → Keyed key says text number
 unfolding afterKey
 keyed key says text {number} read = by-key (sameText (take (length key) text) key) refl read
   where
-    by-key : (same : Bool) → sameText (take (length key) text) key ≡ same → cond same (says (drop (length key) text)) Nothing ≡ Number number → Keyed key says text number
+    by-key : (same : Bool) → sameText (take (length key) text) key ≡ same →
+        cond same (says (drop (length key) text)) Nothing ≡ Number number → Keyed key says text number
     by-key true same read = record { begins = same-eq (take (length key) text) key same; said = read }
     by-key false same read = never (cc)
 
@@ -106,12 +112,16 @@ names-all : (Q : List ℕ → Type 0) → List (List ℕ) → Type 0
 names-all Q [] = Unit {0}
 names-all Q (name ∷ names) = Q name × names-all Q names
 
-kind-among : (Q : List ℕ → Type 0) (number : ℕ) (names : List (List ℕ)) (text : List ℕ) {kind : ℕ} → names-all Q names → kindFrom number names text ≡ Number kind → Q text
+kind-among : (Q : List ℕ → Type 0) (number : ℕ) (names : List (List ℕ)) (text : List ℕ) {kind : ℕ} → names-all Q names →
+    kindFrom number names text ≡ Number kind → Q text
 unfolding kindFrom names-all
 kind-among Q number [] text all read = never (cc)
-kind-among Q number (name ∷ names) text {kind} all read = by-name (sameText text name) refl read (λ later. kind-among Q (suc number) names text (all .1) later)
+kind-among Q number (name ∷ names) text {kind} all read =
+    by-name (sameText text name) refl read (λ later. kind-among Q (suc number) names text (all .1) later)
   where
-    by-name : (same : Bool) → sameText text name ≡ same → cond same (Number number) (kindFrom (suc number) names text) ≡ Number kind → (kindFrom (suc number) names text ≡ Number kind → Q text) → Q text
+    by-name : (same : Bool) → sameText text name ≡ same →
+        cond same (Number number) (kindFrom (suc number) names text) ≡ Number kind →
+        (kindFrom (suc number) names text ≡ Number kind → Q text) → Q text
     by-name true same read later = subst⁻¹ Q (same-eq text name same) (all .0)
     by-name false same read later = later read
 
@@ -121,17 +131,16 @@ unfolding kindNamed names names-all ascii
 kind-some text read = kind-among (λ name. 3 ≤ length name) 1 names text (omega arith) read
 
 -- a field is as long as its key and what comes after it
-keyed-long : (key : List ℕ) (says : List ℕ → Field) (text : List ℕ) {number : ℕ} (size : ℕ) → Keyed key says text number → (size ≤ length (drop (length key) text)) → length key + size ≤ length text
-keyed-long key says text size field some = omega (arith, ap length (field .begins), length-take (length key) text, length-drop (length key) text)
+keyed-long : (key : List ℕ) (says : List ℕ → Field) (text : List ℕ) {number : ℕ} (size : ℕ) →
+    Keyed key says text number → (size ≤ length (drop (length key) text)) → length key + size ≤ length text
+keyed-long key says text size field some =
+    omega (arith, ap length (field .begins), length-take (length key) text, length-drop (length key) text)
 
 -- where something stands after a byte, the byte is there
-split-long : (byte : ℕ) (text : List ℕ) → 1 ≤ length (after byte text) → length text ≡ length (before byte text) + 1 + length (after byte text)
+split-long : (byte : ℕ) (text : List ℕ) → 1 ≤ length (after byte text) →
+    length text ≡ length (before byte text) + 1 + length (after byte text)
 unfolding before after
 split-long byte text some = omega (arith, length-take (indexOf byte text) text, length-drop (indexOf byte text + 1) text)
-
-before-short : (byte : ℕ) (text : List ℕ) → length (before byte text) ≤ length text
-unfolding before
-before-short byte text = omega (arith, length-take (indexOf byte text) text)
 
 -- "step=LOG thread=0 place=0 value=0" has 33 bytes
 pub step-long : (text : List ℕ) {kind thread place value : ℕ} → lineOf text ≡ Step kind thread place value → 33 ≤ length text
@@ -139,15 +148,23 @@ unfolding lineOf ascii
 step-long text step =
     let rest = after space text in
     let last = after space rest in
-    let read = fields-read (afterKey (ascii "step=") kindNamed (before space text)) (afterKey (ascii "thread=") numberIn (before space rest)) (afterKey (ascii "place=") numberIn (before space last)) (afterKey (ascii "value=") numberIn (after space last)) step in
+    let read =
+    fields-read (afterKey (ascii "step=") kindNamed (before space text))
+    (afterKey (ascii "thread=") numberIn (before space rest))
+    (afterKey (ascii "place=") numberIn (before space last))
+    (afterKey (ascii "value=") numberIn (after space last)) step in
     let kind = keyed (ascii "step=") kindNamed (before space text) (read .0) in
     let thread = keyed (ascii "thread=") numberIn (before space rest) (read .1) in
     let place = keyed (ascii "place=") numberIn (before space last) (read .2) in
     let value = keyed (ascii "value=") numberIn (after space last) (read .3) in
-    let a : 8 ≤ length (before space text) = keyed-long (ascii "step=") kindNamed (before space text) 3 kind (kind-some (drop 5 (before space text)) (kind .said)) in
-    let b : 8 ≤ length (before space rest) = keyed-long (ascii "thread=") numberIn (before space rest) 1 thread (number-some (drop 7 (before space rest)) (thread .said)) in
-    let c : 7 ≤ length (before space last) = keyed-long (ascii "place=") numberIn (before space last) 1 place (number-some (drop 6 (before space last)) (place .said)) in
-    let d : 7 ≤ length (after space last) = keyed-long (ascii "value=") numberIn (after space last) 1 value (number-some (drop 6 (after space last)) (value .said)) in
+    let a : 8 ≤ length (before space text) =
+    keyed-long (ascii "step=") kindNamed (before space text) 3 kind (kind-some (drop 5 (before space text)) (kind .said)) in
+    let b : 8 ≤ length (before space rest) =
+    keyed-long (ascii "thread=") numberIn (before space rest) 1 thread (number-some (drop 7 (before space rest)) (thread .said)) in
+    let c : 7 ≤ length (before space last) =
+    keyed-long (ascii "place=") numberIn (before space last) 1 place (number-some (drop 6 (before space last)) (place .said)) in
+    let d : 7 ≤ length (after space last) =
+    keyed-long (ascii "value=") numberIn (after space last) 1 value (number-some (drop 6 (after space last)) (value .said)) in
     let e : length last ≡ length (before space last) + 1 + length (after space last) = split-long space last (omega arith) in
     let f : length rest ≡ length (before space rest) + 1 + length last = split-long space rest (omega arith) in
     let g : length text ≡ length (before space text) + 1 + length rest = split-long space text (omega arith) in

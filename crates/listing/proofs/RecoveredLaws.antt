@@ -14,8 +14,10 @@ use Rattle.answer.proofs.RefusalLaws.{unless-cases}
 use Rattle.cache.specs.Cache.{cellCount}
 use Rattle.machine.specs.Image.{imageOf, cutOf}
 use Rattle.machine.specs.declared.Machine.{Machine}
-use Rattle.recovery.specs.Recover.{imageTests, recoverTests, recoverOf}
-use Rattle.recovery.specs.Undo.{StoredLog, storedLogs, storedLog, entryKind, entryPlace, entryValue, Undo, leftOf, lowestFrom, takeLast, takeFrom, takeNext, takeMany, undoStart, undone}
+use Rattle.image.specs.Stored.{StoredLog, storedLogs, storedLog, entryKind, entryPlace, entryValue}
+use Rattle.image.specs.Tests.{imageTests}
+use Rattle.recovery.specs.Recover.{recoverTests, recoverOf}
+use Rattle.recovery.specs.Undo.{Undo, leftOf, lowestFrom, takeLast, takeFrom, takeNext, takeMany, undoStart, undone}
 use Rattle.listing.specs.Transcript.{recoveredCells}
 use Rattle.log.specs.Stretch.{headsAt}
 
@@ -59,6 +61,8 @@ undo-long (suc count) logs undo =
 pub recovered-most : (machine : Machine) → length (recoveredCells machine) ≤ 128
 unfolding recoveredCells recoverOf recoverTests imageTests undone undoStart
 recovered-most machine =
-    unless-cases (λ (outcome : Outcome). length (outcome .buffer) ≤ 128) _ (recoverTests (imageOf machine) (replicate cellCount 0)) _ (refl, (refl, (refl, (refl, (refl, tt)))))
+    unless-cases (λ (outcome : Outcome). length (outcome .buffer) ≤ 128) _
+    (recoverTests (imageOf machine) (replicate cellCount 0)) _ (refl, (refl, (refl, (refl, (refl, tt)))))
     (λ answer refused. omega arith)
-    (λ none-holds. omega (arith, undo-long 256 (storedLogs (imageOf machine)) (undoStart (imageOf machine)), length-take headsAt (imageOf machine)))
+    (λ none-holds.
+    omega (arith, undo-long 256 (storedLogs (imageOf machine)) (undoStart (imageOf machine)), length-take headsAt (imageOf machine)))

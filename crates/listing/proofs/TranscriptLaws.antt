@@ -25,7 +25,8 @@ use Rattle.line.specs.Text.{ascii}
 use Rattle.line.specs.Lines.{newline, after, firstLine, linesFrom, linesOf}
 use Rattle.print.specs.Buffers.{written, placeAfter}
 use Rattle.print.specs.Printed.{resultText, cellText, cellsText}
-use Rattle.listing.specs.Transcript.{mostInput, startMachine, recoveredCells, printed, transcriptOf, transcriptRoom, Transcript, transcriptIn}
+use Rattle.listing.specs.Transcript.{mostInput, startMachine, recoveredCells, printed, transcriptOf, transcriptRoom, Transcript}
+use Rattle.listing.specs.Transcript.{transcriptIn}
 use Rattle.line.specs.declared.Line.{Line}
 use Rattle.line.specs.declared.Line.the-variants.{Step, Unreadable}
 use Rattle.print.proofs.DecimalLaws.{decimal-most}
@@ -65,7 +66,12 @@ unfolding printed leading
 printed-most machine number [] = omega (arith, cells-most 0 (recoveredCells machine), recovered-most machine)
 printed-most machine number (Step kind thread place value ∷ lines) =
     let stepped = stepOf machine kind thread place value in
-    omega (arith, length-append (resultText number (stepped .answer)) (printed (stepped .machine) (suc number) lines), result-most number (stepped .answer), printed-most (stepped .machine) (suc number) lines)
+    omega (
+      arith,
+      length-append (resultText number (stepped .answer)) (printed (stepped .machine) (suc number) lines),
+      result-most number (stepped .answer),
+      printed-most (stepped .machine) (suc number) lines,
+    )
 printed-most machine number (Unreadable ∷ lines) = omega (arith, result-most number UnreadableAnswer)
 
 -- any transcript fits
@@ -81,7 +87,8 @@ transcript-fits input =
 -- ---- the loop over the lines
 
 -- the transcript stands in the buffer
-pub transcript-done : (input old : List ℕ) {output : List ℕ} {place : ℕ} → transcriptRoom ≤ length old → Wrote old output place (transcriptOf input)
+pub transcript-done : (input old : List ℕ) {output : List ℕ} {place : ℕ} → transcriptRoom ≤ length old
+    → Wrote old output place (transcriptOf input)
     → _≡_ {A = Transcript} (record { count = place; buffer = output }) (transcriptIn input old)
 unfolding transcriptIn
 transcript-done input old room all =
@@ -89,7 +96,8 @@ transcript-done input old room all =
     (ap₂ (λ (count : ℕ) (buffer : List ℕ). record { count = count; buffer = buffer }) (all .end) (all .held))
 
 -- a buffer without room for it
-pub transcript-refused : (input old : List ℕ) → length old < transcriptRoom → _≡_ {A = Transcript} (record { count = 0; buffer = old }) (transcriptIn input old)
+pub transcript-refused : (input old : List ℕ) → length old < transcriptRoom →
+    _≡_ {A = Transcript} (record { count = 0; buffer = old }) (transcriptIn input old)
 unfolding transcriptIn
 transcript-refused input old short = rw (lt-leb transcriptRoom (length old) short)
 
@@ -119,9 +127,11 @@ module _ (input old : List ℕ) (room : transcriptRoom ≤ length old) where
     counted = omega arith;
   }
 
-  module _ {output : List ℕ} {machine : Machine} {number from place : ℕ} (so-far : Printing input old output machine number from place) where
+  module _ {output : List ℕ} {machine : Machine} {number from place : ℕ}
+      (so-far : Printing input old output machine number from place) where
     -- a piece of what is left fits
-    piece-fits : (piece rest : List ℕ) → printed machine number (linesOf (drop from input)) ≡ piece ++ rest → length (so-far .done) + length piece ≤ length old
+    piece-fits : (piece rest : List ℕ) → printed machine number (linesOf (drop from input)) ≡ piece ++ rest →
+        length (so-far .done) + length piece ≤ length old
     piece-fits piece rest is =
         omega (
           arith,
@@ -133,7 +143,9 @@ module _ (input old : List ℕ) (room : transcriptRoom ≤ length old) where
         )
 
     -- the last piece
-    printing-last : (piece : List ℕ) → printed machine number (linesOf (drop from input)) ≡ piece → {place' : ℕ} {output' : List ℕ} → place' ≡ placeAfter output place piece → output' ≡ written output place piece
+    printing-last : (piece : List ℕ) → printed machine number (linesOf (drop from input)) ≡ piece
+        → {place' : ℕ} {output' : List ℕ} → place' ≡ placeAfter output place piece
+        → output' ≡ written output place piece
         → _≡_ {A = Transcript} (record { count = place'; buffer = output' }) (transcriptIn input old)
     printing-last piece is at held =
         let all = wrote-more piece (so-far .wrote) (piece-fits piece [] (is ∙ sym (append-nil piece))) at held in
@@ -148,7 +160,8 @@ module _ (input old : List ℕ) (room : transcriptRoom ≤ length old) where
 
       -- a line that can't be read
       pub printing-unreadable : firstLine (drop from input) ≡ Unreadable → {place' : ℕ} {output' : List ℕ}
-          → place' ≡ placeAfter output place (resultText number UnreadableAnswer) → output' ≡ written output place (resultText number UnreadableAnswer)
+          → place' ≡ placeAfter output place (resultText number UnreadableAnswer)
+          → output' ≡ written output place (resultText number UnreadableAnswer)
           → _≡_ {A = Transcript} (record { count = place'; buffer = output' }) (transcriptIn input old)
       unfolding printed
       printing-unreadable says at held =
@@ -170,16 +183,20 @@ module _ (input old : List ℕ) (room : transcriptRoom ≤ length old) where
         text = resultText number (stepOf machine kind thread cell value .answer)
 
         abbrev rest : List ℕ
-        rest = printed (stepOf machine kind thread cell value .machine) (number + 1) (linesOf (drop (from + (indexOf newline (drop from input) + 1)) input))
+        rest =
+            printed (stepOf machine kind thread cell value .machine) (number + 1)
+            (linesOf (drop (from + (indexOf newline (drop from input) + 1)) input))
 
         step-printed : printed machine number (linesOf (drop from input)) ≡ text ++ rest
         unfolding printed after
         step-printed =
             rw (lines-first (drop from input) some-left, says)
-            (ap₂ (λ (next : ℕ) (later : List ℕ). text ++ printed (stepOf machine kind thread cell value .machine) next (linesOf later)) (sym (add-one number)) (drop-drop (indexOf newline (drop from input) + 1) from input))
+            (ap₂ (λ (next : ℕ) (later : List ℕ). text ++ printed (stepOf machine kind thread cell value .machine) next (linesOf later))
+            (sym (add-one number)) (drop-drop (indexOf newline (drop from input) + 1) from input))
 
         pub printing-step : {stepped : Stepped} → stepped ≡ stepOf machine kind thread cell value
-            → {place' : ℕ} {output' : List ℕ} → place' ≡ placeAfter output place (resultText number (stepped .answer)) → output' ≡ written output place (resultText number (stepped .answer))
+            → {place' : ℕ} {output' : List ℕ} → place' ≡ placeAfter output place (resultText number (stepped .answer))
+            → output' ≡ written output place (resultText number (stepped .answer))
             → {length' : ℕ} → length' ≡ indexOf newline (drop from input) + 1
             → Printing input old output' (stepped .machine) (number + 1) (from + length') place'
         printing-step is at held long =
@@ -189,7 +206,8 @@ module _ (input old : List ℕ) (room : transcriptRoom ≤ length old) where
               done = so-far .done ++ text;
               wrote = wrote-more text (so-far .wrote) (piece-fits text rest step-printed) here there;
               left =
-                  ap₂ (λ (stepped : Stepped) (length' : ℕ). (so-far .done ++ text) ++ printed (stepped .machine) (number + 1) (linesOf (drop (from + length') input))) is long
+                  ap₂ (λ (stepped : Stepped) (length' : ℕ).
+                  (so-far .done ++ text) ++ printed (stepped .machine) (number + 1) (linesOf (drop (from + length') input))) is long
                   ∙ append-assoc (so-far .done) text rest
                   ∙ ap (λ (tail : List ℕ). so-far .done ++ tail) (sym step-printed)
                   ∙ so-far .left;
@@ -205,9 +223,17 @@ module _ (input old : List ℕ) (room : transcriptRoom ≤ length old) where
       all-printed = rw (drop-of-length-le input none)
 
       pub cells-fit : place + length (cellsText 0 (recoveredCells machine)) ≤ length output
-      cells-fit = omega (arith, piece-fits (cellsText 0 (recoveredCells machine)) [] (all-printed ∙ sym (append-nil (cellsText 0 (recoveredCells machine)))), so-far .wrote .end, printing-long)
+      cells-fit =
+          omega (
+            arith,
+            piece-fits (cellsText 0 (recoveredCells machine)) [] (all-printed ∙ sym (append-nil (cellsText 0 (recoveredCells machine)))),
+            so-far .wrote .end,
+            printing-long,
+          )
 
-      pub printing-end : {place' : ℕ} {output' : List ℕ} → place' ≡ place + length (cellsText 0 (recoveredCells machine)) → output' ≡ written output place (cellsText 0 (recoveredCells machine))
+      pub printing-end : {place' : ℕ} {output' : List ℕ}
+          → place' ≡ place + length (cellsText 0 (recoveredCells machine))
+          → output' ≡ written output place (cellsText 0 (recoveredCells machine))
           → _≡_ {A = Transcript} (record { count = place'; buffer = output' }) (transcriptIn input old)
       printing-end at held =
           printing-last (cellsText 0 (recoveredCells machine)) all-printed

@@ -1,3 +1,3 @@
--- Laws of locks and of the four steps' tests.
+-- Laws of locks and of the three steps' tests.
 pub mod LockLaws
 pub mod AskedLaws

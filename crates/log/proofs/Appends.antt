@@ -50,5 +50,6 @@ module _ (log : Log) (payload : Payload) (closes : Releasing) where
     append-accepted acceptance =
         ⊎-elim
         (λ accepted. rw (e, accepted .0) (sym (accepted .1)))
-        (λ refused. absurd (true≢false (sym (ap (λ number. eqb number 0) acceptance) ∙ ap (λ g. eqb (numberOf (g .answer)) 0) e ∙ refused .0)))
+        (λ refused. absurd
+        (true≢false (sym (ap (λ number. eqb number 0) acceptance) ∙ ap (λ g. eqb (numberOf (g .answer)) 0) e ∙ refused .0)))
         ways

@@ -1,4 +1,5 @@
--- A log that a list of steps may begin with: no entry is live, and no persisted slot holds an LSN from the head on, whatever else the slots hold.
+-- A log that a list of steps may begin with: no entry is live, and no persisted slot holds an LSN from the head on, whatever else the
+-- slots hold.
 use Prim.Native.Nat.{ℕ, suc, _+_, _≤_}
 use mathlib.Core.Bool.{false, true≢false}
 use mathlib.Core.Path.{_≡_, refl, sym, ap, _∙_}

@@ -1,5 +1,5 @@
--- Laws about one log, for any thread: its slots and numbers, its invariant, what it may begin with, its present entries and its stretch of an
--- image; and what the proofs of several functions share.
+-- Laws about one log, for any thread: its slots and numbers, its invariant, what it may begin with, its present entries and its stretch
+-- of an image; and what the proofs of several functions share.
 pub mod Torn
 pub mod SlotsHold
 pub mod SlotLaws

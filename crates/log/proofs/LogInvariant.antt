@@ -12,12 +12,14 @@ use Rattle.answer.proofs.RefusalLaws.{AllFail}
 use Rattle.ring.specs.Ring.{slotCount, lastLsn, lsn, slotOf, grownTail, roomTests, flushedTail, fencedTail}
 use Rattle.ring.specs.declared.Releasing.{Releasing}
 use Rattle.ring.specs.declared.Tail.{Tail}
-use Rattle.log.specs.Entries.{entryOf, zeros, slotWords, wordsOf, entryAt, keptAt, withTail, isLiveSlot, appendTests, appendOf, flushLogOf, fenceLogOf, evictSlotOf, dropOf}
+use Rattle.log.specs.Entries.{entryOf, zeros, slotWords, wordsOf, entryAt, keptAt, withTail, isLiveSlot, appendTests, appendOf}
+use Rattle.log.specs.Entries.{flushLogOf, fenceLogOf, evictSlotOf, dropOf}
 use Rattle.log.specs.Stretch.{entryWords, lsnWord, holds}
 use Rattle.log.specs.declared.Entry.{Entry}
 use Rattle.log.specs.declared.Log.{Log}
 use Rattle.log.specs.declared.Payload.{Payload}
-use Rattle.log.proofs.SlotLaws.{live-slot, words-tell, holds-lsn, length-persistSlot, length-persistFrom, persist-here, persist-other, run-here, run-elsewhere}
+use Rattle.log.proofs.SlotLaws.{live-slot, words-tell, holds-lsn, length-persistSlot, length-persistFrom, persist-here}
+use Rattle.log.proofs.SlotLaws.{persist-other, run-here, run-elsewhere}
 use Rattle.log.proofs.SlotsHold as Slots
 use Rattle.log.proofs.SlotsHold.{Written, Marks, SlotsHold, slot-below}
 
@@ -61,7 +63,8 @@ inSlots slots slot = slotWords (getD slots slot zeros)
 -- the log's invariant in words
 abbrev InWords : Log → (ℕ → Payload) → Type 0
 InWords log says =
-    SlotsHold lsnWord entryWords tagOf (λ number. slotWords (entryOf (lsn number) (says number))) (inSlots (log .cached)) (inSlots (log .persisted)) (marksOf log)
+    SlotsHold lsnWord entryWords tagOf (λ number. slotWords (entryOf (lsn number) (says number)))
+    (inSlots (log .cached)) (inSlots (log .persisted)) (marksOf log)
 
 in-words : (log : Log) (says : ℕ → Payload) → LogHolds log says → InWords log says
 in-words log says inv = record {
@@ -130,7 +133,10 @@ module _ (log : Log) (says : ℕ → Payload) (inv : LogHolds log says) where
       lsn-written
       (in-words log says inv)
       (record {
-        here = ap slotWords (getD-set-same (log .cached) (slotOf next) made zeros (omega (arith, inv .cachedSlots, slot-below next)) ∙ ap (entryOf (lsn next)) (sym new));
+        here =
+            ap slotWords
+            (getD-set-same (log .cached) (slotOf next) made zeros (omega (arith, inv .cachedSlots, slot-below next)) ∙
+            ap (entryOf (lsn next)) (sym new));
         elsewhere = λ other differs. ap slotWords (getD-set-other (log .cached) (slotOf next) other made zeros differs);
         earlier = λ number below. ap (λ payload. slotWords (entryOf (lsn number) payload)) (earlier number below);
       })
@@ -152,7 +158,8 @@ module _ (log : Log) (says : ℕ → Payload) (inv : LogHolds log says) where
       says
       (inv .cachedSlots)
       (inv .persistedSlots)
-      (Slots.flush-holds lsn-written (in-words log says inv) (log .tail .next .0 - 1) (omega (arith, inv .durableFlushed, inv .flushedNext)) (omega (arith, inv .flushedNext)))
+      (Slots.flush-holds lsn-written (in-words log says inv) (log .tail .next .0 - 1)
+      (omega (arith, inv .durableFlushed, inv .flushedNext)) (omega (arith, inv .flushedNext)))
 
   pub evict-holds : (slot : ℕ) → isLiveSlot log slot ≡ true → LogHolds (evictSlotOf log slot) says
   unfolding evictSlotOf
@@ -192,9 +199,11 @@ module _ (log : Log) (says : ℕ → Payload) (inv : LogHolds log says) where
       lsn-written
       (in-words log says inv)
       (record {
-        here = λ number past upTo. ap slotWords (run-here (log .cached) (log .persisted) first count number (inv .persistedSlots) (omega arith) (omega arith));
+        here = λ number past upTo.
+            ap slotWords (run-here (log .cached) (log .persisted) first count number (inv .persistedSlots) (omega arith) (omega arith));
         elsewhere = λ slot outside.
-            ap slotWords (run-elsewhere (log .cached) (log .persisted) first count slot (λ live from to. outside live (omega arith) (omega arith)));
+            ap slotWords
+            (run-elsewhere (log .cached) (log .persisted) first count slot (λ live from to. outside live (omega arith) (omega arith)));
       })
       (λ slot inside. refl))
 

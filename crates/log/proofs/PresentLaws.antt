@@ -34,12 +34,14 @@ present-are log says inv =
     let finds = holds (wordsOf slots) in
     let present = presentCount log in
     let most = present-at-most finds head slotCount in
-    let found : (index : ℕ) → index < present → (head + index < log .tail .next .0) × (keptAt log (head + index) ≡ entryOf (lsn (head + index)) (says (head + index))) =
+    let found : (index : ℕ) → index < present →
+    (head + index < log .tail .next .0) × (keptAt log (head + index) ≡ entryOf (lsn (head + index)) (says (head + index))) =
     λ index below. inv .foundIs (head + index) (omega arith) (omega arith) (present-found finds head slotCount index below .0) in
     let durable : (index : ℕ) → index < log .tail .durable .0 + 1 - head → finds (head + index) ≡ true =
     λ index below. entry-holds slots (head + index) (says (head + index)) (inv .durableIs (head + index) (omega arith) (omega arith)) in
     record {
-      durablePresent = omega (arith, present-reaches finds head slotCount (log .tail .durable .0 + 1 - head) (omega arith) (omega arith) durable);
+      durablePresent =
+          omega (arith, present-reaches finds head slotCount (log .tail .durable .0 + 1 - head) (omega arith) (omega arith) durable);
       presentLive = by-cases (ℕ-discrete present 0) (λ none. omega arith) (λ some. omega (arith, found (present - 1) (omega arith) .0));
       presentMost = most;
       presentIs = λ index below. words-are slots (head + index) (says (head + index)) (found index below .1);

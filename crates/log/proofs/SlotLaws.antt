@@ -73,7 +73,8 @@ pub record WordsAre (words : List ℕ) (number : ℕ) (payload : Payload) : Type
 pub words-are : (slots : List Entry) (number : ℕ) (payload : Payload) → getD slots (slotOf number) zeros ≡ entryOf (lsn number) payload
     → WordsAre (wordsOf slots) number payload
 words-are slots number payload is =
-    let word : (index : ℕ) → index < entryWords → wordAt (wordsOf slots) number index ≡ getD (slotWords (entryOf (lsn number) payload)) index 0 =
+    let word : (index : ℕ) → index < entryWords →
+    wordAt (wordsOf slots) number index ≡ getD (slotWords (entryOf (lsn number) payload)) index 0 =
     λ index inside. slot-word slots (slotOf number) index inside ∙ ap (λ slot. getD (slotWords slot) index 0) is in
     record { kindIs = word 0 (omega arith); placeIs = word 1 (omega arith); valueIs = word 2 (omega arith) }
 
@@ -125,5 +126,6 @@ pub run-elsewhere : (cached slots : List Entry) (number count slot : ℕ)
 unfolding persistFrom
 run-elsewhere cached slots number zero slot outside = refl
 run-elsewhere cached slots number (suc count) slot outside =
-    persist-other cached (persistFrom cached slots number count) (slotOf (number + count)) slot (λ same. outside (number + count) (omega arith) (omega arith) (sym same))
+    persist-other cached (persistFrom cached slots number count) (slotOf (number + count)) slot
+    (λ same. outside (number + count) (omega arith) (omega arith) (sym same))
     ∙ run-elsewhere cached slots number count slot (λ live from to. outside live from (omega arith))

@@ -54,7 +54,8 @@ pub same-slot : (head one other : ℕ) → head ≤ one → one < head + slotCou
     → slotOf one ≡ slotOf other → one ≡ other
 same-slot head one other oneFrom oneTo otherFrom otherTo same = omega arith
 
--- a log that begins at any head, over slots of any content none of which tells the LSN that it is to hold
+-- a log that begins at any head, over slots of any content none of which tells the LSN that it is to hold: it waits for a
+-- machine that goes on from an image
 pub begin-holds : (said width : ℕ) (tag entry cached kept : ℕ → List ℕ) (head : ℕ) → 1 ≤ head → head ≤ lastLsn + 1
     → ((slot : ℕ) → slot < slotCount → length (kept slot) ≡ width)
     → ((number : ℕ) → head ≤ number → drop said (kept (slotOf number)) ≡ tag number → ⊥)
@@ -155,7 +156,8 @@ module _ {said width : ℕ} {tag : ℕ → List ℕ} (written : Written said wid
 
   pub append-holds : {cached′ entry′ : ℕ → List ℕ} → Appends cached cached′ entry entry′ (marks .next)
       → IsEntry said width tag (entry′ (marks .next)) (marks .next) → marks .next ≤ lastLsn → marks .next < marks .head + slotCount
-      → SlotsHold said width tag entry′ cached′ kept (record { head = marks .head; next = marks .next + 1; durable = marks .durable; flushed = marks .flushed })
+      → SlotsHold said width tag entry′ cached′ kept
+      (record { head = marks .head; next = marks .next + 1; durable = marks .durable; flushed = marks .flushed })
   append-holds {cached′} {entry′} more isEntry bound room =
       let next = marks .next in
       let o = inv .ordered in
@@ -180,7 +182,8 @@ module _ {said width : ℕ} {tag : ℕ → List ℕ} (written : Written said wid
             (ℕ-discrete number next)
             (λ is. rw is (more .here))
             (λ differs.
-            more .elsewhere (slotOf number) (λ same. differs (same-slot (marks .head) number next from (omega arith) (o .headNext) room same))
+            more .elsewhere (slotOf number)
+            (λ same. differs (same-slot (marks .head) number next from (omega arith) (o .headNext) room same))
             ∙ inv .cachedIs number from (omega arith)
             ∙ sym (more .earlier number (omega arith)));
         foundIs = λ number from to tells.
@@ -191,7 +194,8 @@ module _ {said width : ℕ} {tag : ℕ → List ℕ} (written : Written said wid
 
   -- FLUSHLOG, and whatever else moves the last flushed LSN
   pub flush-holds : (flushed : ℕ) → marks .durable ≤ flushed → flushed + 1 ≤ marks .next
-      → SlotsHold said width tag entry cached kept (record { head = marks .head; next = marks .next; durable = marks .durable; flushed = flushed })
+      → SlotsHold said width tag entry cached kept
+      (record { head = marks .head; next = marks .next; durable = marks .durable; flushed = flushed })
   flush-holds flushed from to =
       let o = inv .ordered in
       record {
@@ -213,19 +217,23 @@ module _ {said width : ℕ} {tag : ℕ → List ℕ} (written : Written said wid
 
   pub fence-holds : {after : ℕ → List ℕ} → KeptRun cached kept after (marks .durable) (marks .flushed)
       → ((slot : ℕ) → slot < slotCount → length (after slot) ≡ width)
-      → SlotsHold said width tag entry cached after (record { head = marks .head; next = marks .next; durable = marks .flushed; flushed = marks .flushed })
+      → SlotsHold said width tag entry cached after
+      (record { head = marks .head; next = marks .next; durable = marks .flushed; flushed = marks .flushed })
   fence-holds {after} run wide =
       let o = inv .ordered in
       let within : (number : ℕ) → marks .durable < number → number ≤ marks .flushed → after (slotOf number) ≡ entry number =
       λ number past upTo. run .here number past upTo ∙ inv .cachedIs number (omega arith) (omega arith) in
-      let without : (number : ℕ) → marks .head ≤ number → number < marks .head + slotCount → (marks .durable < number → number ≤ marks .flushed → ⊥) → after (slotOf number) ≡ kept (slotOf number) =
+      let without : (number : ℕ) → marks .head ≤ number → number < marks .head + slotCount
+      → (marks .durable < number → number ≤ marks .flushed → ⊥) → after (slotOf number) ≡ kept (slotOf number) =
       λ number from to outside.
       run .elsewhere
       (slotOf number)
       (λ other past upTo same.
       let is = same-slot (marks .head) other number (omega arith) (omega arith) from to same in
       outside (omega arith) (omega arith)) in
-      let found : (number : ℕ) → marks .head ≤ number → number < marks .head + slotCount → after (slotOf number) ≡ kept (slotOf number) → drop said (after (slotOf number)) ≡ tag number → (number < marks .next) × (after (slotOf number) ≡ entry number) =
+      let found : (number : ℕ) → marks .head ≤ number → number < marks .head + slotCount
+      → after (slotOf number) ≡ kept (slotOf number) → drop said (after (slotOf number)) ≡ tag number
+      → (number < marks .next) × (after (slotOf number) ≡ entry number) =
       λ number from to same tells.
       let was = inv .foundIs number from to (ap (drop said) (sym same) ∙ tells) in
       (was .0, same ∙ was .1) in
@@ -260,7 +268,8 @@ module _ {said width : ℕ} {tag : ℕ → List ℕ} (written : Written said wid
 
   -- the head moves past durable entries. A slot that enters the window has the entry 64 below, so not the one that it is to hold.
   pub drop-holds : (head : ℕ) → marks .head ≤ head → head ≤ marks .next → head ≤ marks .durable + 1
-      → SlotsHold said width tag entry cached kept (record { head = head; next = marks .next; durable = marks .durable; flushed = marks .flushed })
+      → SlotsHold said width tag entry cached kept
+      (record { head = head; next = marks .next; durable = marks .durable; flushed = marks .flushed })
   drop-holds head from to durable =
       let o = inv .ordered in
       record {
@@ -285,7 +294,8 @@ module _ {said width : ℕ} {tag : ℕ → List ℕ} (written : Written said wid
             let same : slotOf before ≡ slotOf number = omega arith in
             let had = inv .durableIs before (omega arith) (omega arith) in
             let tagged = inv .entries before (omega arith) (omega arith) .tagged in
-            let is = written .tells before number (sym tagged ∙ (ap (drop said) (sym had) ∙ (ap (λ slot. drop said (kept slot)) same ∙ tells))) in
+            let is =
+            written .tells before number (sym tagged ∙ (ap (drop said) (sym had) ∙ (ap (λ slot. drop said (kept slot)) same ∙ tells))) in
             absurd (omega arith));
         durableIs = λ number above below. inv .durableIs number (omega arith) below;
       }

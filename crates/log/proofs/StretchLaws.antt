@@ -7,6 +7,7 @@ use native.Mathlib.Omega.{arith}
 use borrow.Author.Tests.{lt-ltb, eq-eqb}
 use lib.ListN.{length, getD, take, drop, length-append, List·getD-append}
 use lib.Seq.{take-at, drop-append-add, getD-append-add}
+use Rattle.sizes.specs.Sizes.{threadCount}
 use Rattle.log.specs.Stretch.{imageWords, headsAt, stretchWords, stretchAt, stretchOf}
 
 -- parts of one width, joined
@@ -35,17 +36,18 @@ flatten-part width (part ∷ parts) none each (suc place) inside =
 pub record Reads (image cells : List ℕ) (heads : ℕ → ℕ) (stretches : ℕ → List ℕ) : Type 0 where
   pub lengthIs : length image ≡ imageWords
   pub cellsAre : take headsAt image ≡ cells
-  pub headIs : (thread : ℕ) → thread < 4 → getD image (headsAt + thread) 0 ≡ heads thread
-  pub stretchIs : (thread : ℕ) → thread < 4 → stretchOf image thread ≡ stretches thread
+  pub headIs : (thread : ℕ) → thread < threadCount → getD image (headsAt + thread) 0 ≡ heads thread
+  pub stretchIs : (thread : ℕ) → thread < threadCount → stretchOf image thread ≡ stretches thread
 
 -- an image of 128 cells, 4 heads and 4 parts of 256 words
-pub image-reads : (cells heads : List ℕ) (parts : List (List ℕ)) (none : List ℕ) → length cells ≡ headsAt → length heads ≡ 4
-    → length parts ≡ 4 → ((thread : ℕ) → thread < 4 → length (getD parts thread none) ≡ stretchWords)
+pub image-reads : (cells heads : List ℕ) (parts : List (List ℕ)) (none : List ℕ) → length cells ≡ headsAt → length heads ≡ threadCount
+    → length parts ≡ threadCount → ((thread : ℕ) → thread < threadCount → length (getD parts thread none) ≡ stretchWords)
     → Reads (cells ++ (heads ++ flatten parts)) cells (λ thread. getD heads thread 0) (λ thread. getD parts thread none)
 unfolding stretchOf
 image-reads cells heads parts none cellCount headCount partCount each =
     let image = cells ++ (heads ++ flatten parts) in
-    let each′ : (thread : ℕ) → thread < length parts → length (getD parts thread none) ≡ stretchWords = λ thread inside. each thread (omega arith) in
+    let each′ : (thread : ℕ) → thread < length parts → length (getD parts thread none) ≡ stretchWords = λ thread inside.
+    each thread (omega arith) in
     let lengthIs : length image ≡ imageWords =
     length-append cells (heads ++ flatten parts)
     ∙ omega (arith, length-append heads (flatten parts), flatten-length stretchWords parts none each′) in
@@ -58,7 +60,7 @@ image-reads cells heads parts none cellCount headCount partCount each =
           ∙ List·getD-append heads (flatten parts) 0 thread (omega arith);
       stretchIs = λ thread inside.
           let start : stretchAt thread ≡ length cells + (length heads + thread * stretchWords) = omega arith in
-          rw (lt-ltb thread 4 inside, eq-eqb (length image) imageWords lengthIs)
+          rw (lt-ltb thread threadCount inside, eq-eqb (length image) imageWords lengthIs)
           (ap (λ start. take stretchWords (drop start image)) start
           ∙ ap (take stretchWords) (drop-append-add cells (heads ++ flatten parts) (length heads + thread * stretchWords))
           ∙ ap (take stretchWords) (drop-append-add heads (flatten parts) (thread * stretchWords))

@@ -1,5 +1,5 @@
--- One log: its entries, whatever they say, the words that they are persisted as, what appends, flushes, fences, evictions and dropped entries do
--- to it, and the writer of its stretch.
+-- One log: its entries, whatever they say, the words that they are persisted as, what appends, flushes, fences, evictions and dropped
+-- entries do to it, and the writer of its stretch.
 use Prim.Native.Nat.{ℕ, zero, suc, _+_, _-_}
 use mathlib.Core.Bool.{Bool, cond, not, _&&_}
 use mathlib.Core.List.{List, [], _∷_, _++_, map, flatten}

@@ -4,6 +4,7 @@ use mathlib.Core.Bool.{Bool, cond, _&&_}
 use mathlib.Core.List.{List, []}
 use lib.ListN.{length, getD, take, drop}
 use lib.Dec.{eqb, leb, ltb}
+use Rattle.sizes.specs.Sizes.{threadCount}
 use Rattle.ring.specs.Ring.{slotCount, lastLsn, slotOf}
 
 -- "1,156 words: 128 kept cells; 4 heads; for threads 0 to 3, slots 0 to 63, the words kind, place, value, rank."
@@ -27,12 +28,12 @@ stretchWords = slotCount * entryWords
 
 -- the first word of a thread's stretch
 abbrev pub stretchAt : ℕ → ℕ
-stretchAt thread = headsAt + 4 + thread * stretchWords
+stretchAt thread = headsAt + threadCount + thread * stretchWords
 
 -- the log reader: "hands back a thread's own stretch of the lent image, or an empty part for a thread over 3 or an image not 1,156 words"
 unfoldable pub stretchOf : List ℕ → ℕ → List ℕ
 stretchOf image thread =
-    cond (ltb thread 4 && eqb (length image) imageWords) (take stretchWords (drop (stretchAt thread) image)) []
+    cond (ltb thread threadCount && eqb (length image) imageWords) (take stretchWords (drop (stretchAt thread) image)) []
 
 -- the words of an LSN's slot in a stretch, one by one
 abbrev pub wordAt : List ℕ → ℕ → ℕ → ℕ

@@ -4,6 +4,7 @@ use mathlib.Core.Path.{_≡_, refl, ap}
 use mathlib.Core.Bool.{true, false, not, true≢false}
 use lib.Dec.{ltb, eqb}
 use borrow.Author.Tests.{ltb-true, ltb-false, eqb-true, not-false}
+use Rattle.sizes.specs.Sizes.{threadCount, lockCount}
 use Rattle.answer.specs.Lists.{someBelow}
 use Rattle.answer.proofs.RefusalLaws.{AllFail}
 use Rattle.undo.specs.Events.{liveEvent}
@@ -19,7 +20,8 @@ use Rattle.machine.specs.Clocks.{loadRaces, logRaces}
 use Rattle.machine.specs.Holds.{logOf, lockOf}
 use Rattle.locks.specs.Locks.{isHeld, isHeldBy}
 use Rattle.kinds.specs.Kinds.{LOAD, LOG, STORE, ACQUIRE, LOGREL, RELEASE, FLUSH, FLUSHLOG, FENCE, PRUNE, EVICT, EVICTLOG, inputTests}
-use Rattle.locks.specs.LockSteps.{awaitsRelease, logsUndurable, releaseTests, pruneTests}
+use Rattle.locks.specs.LockSteps.{releaseTests}
+use Rattle.prune.specs.Pruning.{awaitsRelease, logsUndurable, pruneTests}
 use Rattle.machine.specs.Refusals.{loadTests, logTests, storeTests, acquireTests, logReleaseTests, stateTests}
 use Rattle.locks.specs.declared.Holder.{Holder}
 use Rattle.locks.specs.declared.Holder.the-variants.{Nobody, Thread}
@@ -32,7 +34,7 @@ below-bound number bound fails = ltb-true number bound (not-false (ltb number bo
 is-zero : (number : ℕ) → not (eqb number 0) ≡ false → number ≡ 0
 is-zero number fails = eqb-true number 0 (not-false (eqb number 0) fails)
 
-releases-nothing : (releasing : Releasing) → isReleasing releasing ≡ false → releasing ≡ Nothing
+pub releases-nothing : (releasing : Releasing) → isReleasing releasing ≡ false → releasing ≡ Nothing
 releases-nothing Nothing fails = refl
 releases-nothing (Lock lock) fails = absurd (true≢false fails)
 
@@ -40,7 +42,7 @@ releases-lock : (releasing : Releasing) (lock : ℕ) → not (isReleasingLock re
 releases-lock Nothing lock fails = absurd (true≢false fails)
 releases-lock (Lock held) lock fails = ap Lock (eqb-true held lock (not-false (eqb held lock) fails))
 
-held-by-nobody : (holder : Holder) → isHeld holder ≡ false → holder ≡ Nobody
+pub held-by-nobody : (holder : Holder) → isHeld holder ≡ false → holder ≡ Nobody
 held-by-nobody Nobody fails = refl
 held-by-nobody (Thread thread) fails = absurd (true≢false fails)
 
@@ -58,7 +60,7 @@ found-durable log Nowhere isFound isDurable = absurd (true≢false isFound)
 found-durable log (At number) isFound isDurable = (number .0, refl, ltb-false (log .tail .durable .0) (number .0) isDurable)
 
 pub record LoadAsked (machine : Machine) (thread cell value : ℕ) : Type 0 where
-  pub inThread : thread < 4
+  pub inThread : thread < threadCount
   pub inCell : cell < 128
   pub noValue : value ≡ 0
   pub noRace : loadRaces machine thread cell ≡ false
@@ -67,14 +69,14 @@ pub load-asked : (machine : Machine) (thread cell value : ℕ) → AllFail (test
     → LoadAsked machine thread cell value
 unfolding inputTests stateTests loadTests loadRaces
 load-asked machine thread cell value fails = record {
-  inThread = below-bound thread 4 (fails .0);
+  inThread = below-bound thread threadCount (fails .0);
   inCell = below-bound cell 128 (fails .1 .0);
   noValue = is-zero value (fails .1 .1 .0);
   noRace = fails .1 .1 .1 .0;
 }
 
 pub record LogAsked (machine : Machine) (thread cell value : ℕ) : Type 0 where
-  pub inThread : thread < 4
+  pub inThread : thread < threadCount
   pub inCell : cell < 128
   pub noValue : value ≡ 0
   pub notReleasing : logOf machine thread .tail .releasing ≡ Nothing
@@ -86,7 +88,7 @@ pub log-asked : (machine : Machine) (thread cell value : ℕ) → AllFail (tests
     → LogAsked machine thread cell value
 unfolding inputTests stateTests logTests logRaces
 log-asked machine thread cell value fails = record {
-  inThread = below-bound thread 4 (fails .0);
+  inThread = below-bound thread threadCount (fails .0);
   inCell = below-bound cell 128 (fails .1 .0);
   noValue = is-zero value (fails .1 .1 .0);
   notReleasing = releases-nothing (logOf machine thread .tail .releasing) (fails .1 .1 .1 .0);
@@ -96,7 +98,7 @@ log-asked machine thread cell value fails = record {
 }
 
 pub record StoreAsked (machine : Machine) (thread cell : ℕ) : Type 0 where
-  pub inThread : thread < 4
+  pub inThread : thread < threadCount
   pub inCell : cell < 128
   pub notReleasing : logOf machine thread .tail .releasing ≡ Nothing
   pub number : ℕ
@@ -107,9 +109,10 @@ pub store-asked : (machine : Machine) (thread cell value : ℕ) → AllFail (tes
     → StoreAsked machine thread cell
 unfolding inputTests stateTests storeTests
 store-asked machine thread cell value fails =
-    let found = found-durable (logOf machine thread) (loggedOf (logOf machine thread) cell) (fails .1 .1 .1 .1 .0) (fails .1 .1 .1 .1 .1 .0) in
+    let found =
+    found-durable (logOf machine thread) (loggedOf (logOf machine thread) cell) (fails .1 .1 .1 .1 .0) (fails .1 .1 .1 .1 .1 .0) in
     record {
-      inThread = below-bound thread 4 (fails .0);
+      inThread = below-bound thread threadCount (fails .0);
       inCell = below-bound cell 128 (fails .1 .0);
       notReleasing = releases-nothing (logOf machine thread .tail .releasing) (fails .1 .1 .1 .0);
       number = found .0;
@@ -118,8 +121,8 @@ store-asked machine thread cell value fails =
     }
 
 pub record AcquireAsked (machine : Machine) (thread lock value : ℕ) : Type 0 where
-  pub inThread : thread < 4
-  pub inLock : lock < 8
+  pub inThread : thread < threadCount
+  pub inLock : lock < lockCount
   pub noValue : value ≡ 0
   pub notReleasing : logOf machine thread .tail .releasing ≡ Nothing
   pub isFree : lockOf machine lock .holder ≡ Nobody
@@ -129,8 +132,8 @@ pub acquire-asked : (machine : Machine) (thread lock value : ℕ) → AllFail (t
     → AcquireAsked machine thread lock value
 unfolding inputTests stateTests acquireTests
 acquire-asked machine thread lock value fails = record {
-  inThread = below-bound thread 4 (fails .0);
-  inLock = below-bound lock 8 (fails .1 .0);
+  inThread = below-bound thread threadCount (fails .0);
+  inLock = below-bound lock lockCount (fails .1 .0);
   noValue = is-zero value (fails .1 .1 .0);
   notReleasing = releases-nothing (logOf machine thread .tail .releasing) (fails .1 .1 .1 .0);
   isFree = held-by-nobody (lockOf machine lock .holder) (fails .1 .1 .1 .1 .0);
@@ -138,8 +141,8 @@ acquire-asked machine thread lock value fails = record {
 }
 
 pub record LogReleaseAsked (machine : Machine) (thread lock value : ℕ) : Type 0 where
-  pub inThread : thread < 4
-  pub inLock : lock < 8
+  pub inThread : thread < threadCount
+  pub inLock : lock < lockCount
   pub noValue : value ≡ 0
   pub notReleasing : logOf machine thread .tail .releasing ≡ Nothing
   pub isHeldBySelf : lockOf machine lock .holder ≡ Thread thread
@@ -149,8 +152,8 @@ pub log-release-asked : (machine : Machine) (thread lock value : ℕ) → AllFai
     → LogReleaseAsked machine thread lock value
 unfolding inputTests stateTests logReleaseTests
 log-release-asked machine thread lock value fails = record {
-  inThread = below-bound thread 4 (fails .0);
-  inLock = below-bound lock 8 (fails .1 .0);
+  inThread = below-bound thread threadCount (fails .0);
+  inLock = below-bound lock lockCount (fails .1 .0);
   noValue = is-zero value (fails .1 .1 .0);
   notReleasing = releases-nothing (logOf machine thread .tail .releasing) (fails .1 .1 .1 .0);
   isHeldBySelf = held-by-thread (lockOf machine lock .holder) thread (fails .1 .1 .1 .1 .0);
@@ -158,8 +161,8 @@ log-release-asked machine thread lock value fails = record {
 }
 
 pub record ReleaseAsked (machine : Machine) (thread lock value : ℕ) : Type 0 where
-  pub inThread : thread < 4
-  pub inLock : lock < 8
+  pub inThread : thread < threadCount
+  pub inLock : lock < lockCount
   pub noValue : value ≡ 0
   pub isReleasingIt : logOf machine thread .tail .releasing ≡ Lock lock
   pub lastDurable : logOf machine thread .tail .next .0 - 1 ≤ logOf machine thread .tail .durable .0
@@ -168,58 +171,62 @@ pub release-asked : (machine : Machine) (thread lock value : ℕ) → AllFail (t
     → ReleaseAsked machine thread lock value
 unfolding inputTests stateTests releaseTests
 release-asked machine thread lock value fails = record {
-  inThread = below-bound thread 4 (fails .0);
-  inLock = below-bound lock 8 (fails .1 .0);
+  inThread = below-bound thread threadCount (fails .0);
+  inLock = below-bound lock lockCount (fails .1 .0);
   noValue = is-zero value (fails .1 .1 .0);
   isReleasingIt = releases-lock (logOf machine thread .tail .releasing) lock (fails .1 .1 .1 .0);
   lastDurable = ltb-false (logOf machine thread .tail .durable .0) (logOf machine thread .tail .next .0 - 1) (fails .1 .1 .1 .1 .0);
 }
 
 pub record FlushAsked (thread line : ℕ) : Type 0 where
-  pub inThread : thread < 4
+  pub inThread : thread < threadCount
   pub inLine : line < 16
 
 pub flush-asked : (machine : Machine) (thread line value : ℕ) → AllFail (testsOf machine FLUSH thread line value) → FlushAsked thread line
 unfolding inputTests
 flush-asked machine thread line value fails = record {
-  inThread = below-bound thread 4 (fails .0);
+  inThread = below-bound thread threadCount (fails .0);
   inLine = below-bound line 16 (fails .1 .0);
 }
 
 -- FLUSHLOG and FENCE ask for a thread alone
-pub flush-log-asked : (machine : Machine) (thread place value : ℕ) → AllFail (testsOf machine FLUSHLOG thread place value) → thread < 4
+pub flush-log-asked : (machine : Machine) (thread place value : ℕ) →
+    AllFail (testsOf machine FLUSHLOG thread place value) → thread < threadCount
 unfolding inputTests
-flush-log-asked machine thread place value fails = below-bound thread 4 (fails .0)
+flush-log-asked machine thread place value fails = below-bound thread threadCount (fails .0)
 
-pub fence-asked : (machine : Machine) (thread place value : ℕ) → AllFail (testsOf machine FENCE thread place value) → thread < 4
+pub fence-asked : (machine : Machine) (thread place value : ℕ) → AllFail (testsOf machine FENCE thread place value) → thread < threadCount
 unfolding inputTests
-fence-asked machine thread place value fails = below-bound thread 4 (fails .0)
+fence-asked machine thread place value fails = below-bound thread threadCount (fails .0)
 
 pub record PruneAsked (machine : Machine) (thread : ℕ) : Type 0 where
-  pub inThread : thread < 4
+  pub inThread : thread < threadCount
   pub isFinishedRegion : isFinished (logOf machine thread) ≡ true
   pub isDurableRegion : logOf machine thread .head .0 + oldestRegion (logOf machine thread) - 1 ≤ logOf machine thread .tail .durable .0
   pub awaitsNothing : awaitsRelease (machine .locks) (liveEvent (logOf machine thread) 0) ≡ false
-  pub cellsDurable : someBelow (oldestRegion (logOf machine thread)) (λ index. logsUndurable (machine .cache) (liveEvent (logOf machine thread) index)) ≡ false
+  pub cellsDurable : someBelow (oldestRegion (logOf machine thread))
+      (λ index. logsUndurable (machine .cache) (liveEvent (logOf machine thread) index)) ≡ false
 
 pub prune-asked : (machine : Machine) (thread place value : ℕ) → AllFail (testsOf machine PRUNE thread place value)
     → PruneAsked machine thread
 unfolding inputTests stateTests pruneTests
 prune-asked machine thread place value fails = record {
-  inThread = below-bound thread 4 (fails .0);
+  inThread = below-bound thread threadCount (fails .0);
   isFinishedRegion = not-false (isFinished (logOf machine thread)) (fails .1 .1 .1 .0);
-  isDurableRegion = ltb-false (logOf machine thread .tail .durable .0) (logOf machine thread .head .0 + oldestRegion (logOf machine thread) - 1) (fails .1 .1 .1 .1 .0);
+  isDurableRegion =
+      ltb-false (logOf machine thread .tail .durable .0)
+      (logOf machine thread .head .0 + oldestRegion (logOf machine thread) - 1) (fails .1 .1 .1 .1 .0);
   awaitsNothing = fails .1 .1 .1 .1 .1 .0;
   cellsDurable = fails .1 .1 .1 .1 .1 .1 .0;
 }
 
 pub evict-asked : (machine : Machine) (thread line value : ℕ) → AllFail (testsOf machine EVICT thread line value)
-    → (thread < 4) × (line < 16)
+    → (thread < threadCount) × (line < 16)
 unfolding inputTests
-evict-asked machine thread line value fails = (below-bound thread 4 (fails .0), below-bound line 16 (fails .1 .0))
+evict-asked machine thread line value fails = (below-bound thread threadCount (fails .0), below-bound line 16 (fails .1 .0))
 
 pub record EvictLogAsked (machine : Machine) (thread slot : ℕ) : Type 0 where
-  pub inThread : thread < 4
+  pub inThread : thread < threadCount
   pub inSlot : slot < 64
   pub isLive : isLiveSlot (logOf machine thread) slot ≡ true
 
@@ -227,7 +234,7 @@ pub evict-log-asked : (machine : Machine) (thread slot value : ℕ) → AllFail 
     → EvictLogAsked machine thread slot
 unfolding inputTests stateTests evictSlotTests
 evict-log-asked machine thread slot value fails = record {
-  inThread = below-bound thread 4 (fails .0);
+  inThread = below-bound thread threadCount (fails .0);
   inSlot = below-bound slot 64 (fails .1 .0);
   isLive = not-false (isLiveSlot (logOf machine thread) slot) (fails .1 .1 .1 .0);
 }

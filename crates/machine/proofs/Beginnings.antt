@@ -1,16 +1,13 @@
 -- The machines that a list of steps may begin at: any cells, four idle logs, nothing held and nothing accessed. The start call's is one.
 use Prim.Native.Nat.{ℕ, _*_, _<_}
-use native.Mathlib.Decide.{decLt}
+use native.Mathlib.Decide.{decLt, ℕ-discrete}
 use native.Mathlib.Omega.{arith}
 use mathlib.Core.Path.{_≡_, refl, sym, subst}
-use mathlib.Core.Bool.{Bool, true, false, cond}
 use mathlib.Core.List.{List}
 use mathlib.Core.Logic.{by-cases}
-use lib.Dec.{eqb}
 use lib.ListN.{length, getD, replicate, getD-replicate, List·getD-eq-default}
-use borrow.Author.Tests.{eqb-true}
+use borrow.Author.Tests.{eq-eqb, ne-eqb}
 use Rattle.sizes.specs.Sizes.{threadCount, lockCount}
-use Rattle.answer.specs.declared.Answer.the-variants.{Accepted, WrongLength}
 use Rattle.answer.proofs.ListLaws.{getD-blank}
 use Rattle.cache.specs.Cache.{cellCount, cacheOf}
 use Rattle.ring.specs.declared.Releasing.the-variants.{Nothing}
@@ -21,7 +18,6 @@ use Rattle.machine.specs.Holds.{noLog, lockOf, freshMachine, startOf}
 use Rattle.locks.specs.Locks.{noLock}
 use Rattle.accesses.specs.Clocks.{noClock, startClocks}
 use Rattle.machine.specs.declared.Machine.{Machine}
-use Rattle.machine.specs.declared.Stepped.{Stepped}
 
 -- the machine with these cells and logs
 abbrev pub machineWith : List ℕ → List Log → Machine
@@ -72,9 +68,8 @@ fresh-all = record {
 pub on-start : (P : Machine → Type 0) → ((cells : List ℕ) → length cells ≡ cellCount → P (machineWith cells freshLogs)) → (words : List ℕ)
     → P (startOf words .machine)
 unfolding startOf freshMachine
-on-start P begins words = by-length (eqb (length words) cellCount) refl
-  where
-    by-length : (isLength : Bool) → eqb (length words) cellCount ≡ isLength
-        → P (cond {A = Stepped} isLength (record { answer = Accepted 0; machine = freshMachine words }) (record { answer = WrongLength; machine = freshMachine (replicate cellCount 0) }) .machine)
-    by-length true is = begins words (eqb-true (length words) cellCount is)
-    by-length false is = begins (replicate cellCount 0) refl
+on-start P begins words =
+    by-cases
+    (ℕ-discrete (length words) cellCount)
+    (λ is. rw (eq-eqb (length words) cellCount is) (begins words is))
+    (λ isNot. rw (ne-eqb (length words) cellCount isNot) (begins (replicate cellCount 0) refl))

@@ -1,5 +1,5 @@
--- Lock counts and clocks are bounded by the entries made, since each RELEASE step uses up a RELEASE entry, and prunings by how far the heads
--- moved. So no count of a lock passes 4,000,000, and no number of a clock 1,000,001.
+-- Lock counts and clocks are bounded by the entries made, since each RELEASE step uses up a RELEASE entry, and prunings by how far the
+-- heads moved. So no count of a lock passes 4,000,000, and no number of a clock 1,000,001.
 use Prim.Native.Nat.{ℕ, zero, suc, _+_, _-_, _≤_, _<_, _*_}
 use native.Mathlib.Decide.{decLt, ℕ-discrete}
 use native.Mathlib.Omega.{arith}
@@ -8,6 +8,7 @@ use mathlib.Core.Bool.{Bool, true, false, cond}
 use mathlib.Core.List.{List, [], _∷_}
 use mathlib.Core.Logic.{by-cases}
 use lib.ListN.{length, getD, set, List·getD-eq-default}
+use Rattle.sizes.specs.Sizes.{threadCount, lockCount}
 use Rattle.answer.proofs.ListLaws.{getD-blank}
 use Rattle.answer.proofs.ListCases.{set-cases}
 use Rattle.answer.proofs.RefusalLaws.{AllFail}
@@ -22,9 +23,10 @@ use Rattle.log.specs.declared.Log.{Log}
 use native.Mathlib.Nat.{suc-mul}
 use Rattle.ring.specs.declared.Releasing.the-variants.{Lock}
 use Rattle.log.proofs.LogInvariant.{append-room}
-use Rattle.undo.proofs.RegionLaws.{region-live, finished-some}
+use Rattle.prune.proofs.OldestLaws.{region-live, finished-some}
 use Rattle.accesses.specs.Clocks.{clockAt, joinOf, raisedOf, loadedOf, loggedCellOf, noClock, startClocks}
-use Rattle.machine.specs.Effects.{loadEffect, logEffect, storeEffect, acquireEffect, logReleaseEffect, releaseEffect, flushEffect, flushLogEffect, fenceEffect, pruneEffect, evictEffect, evictLogEffect, effect}
+use Rattle.machine.specs.Effects.{loadEffect, logEffect, storeEffect, acquireEffect, logReleaseEffect, releaseEffect, flushEffect}
+use Rattle.machine.specs.Effects.{flushLogEffect, fenceEffect, pruneEffect, evictEffect, evictLogEffect, effect}
 use Rattle.locks.specs.Locks.{prunedLocks, noLock}
 use Rattle.machine.specs.Holds.{noLog, logOf, lockOf, clockOf, lockClockOf, startOf}
 use Rattle.kinds.specs.Kinds.{Kind, LOAD, LOG, STORE, ACQUIRE, LOGREL, RELEASE, FLUSH, FLUSHLOG, FENCE, PRUNE, EVICT, EVICTLOG}
@@ -32,7 +34,8 @@ use Rattle.machine.specs.Runs.{Step, after, Reached}
 use Rattle.accesses.specs.declared.Clock.{Clock}
 use Rattle.locks.specs.declared.Lock.{Lock as LockState}
 use Rattle.machine.specs.declared.Machine.{Machine}
-use Rattle.machine.proofs.AcceptedMeans.{log-asked, acquire-asked, log-release-asked, release-asked, flush-log-asked, fence-asked, prune-asked, evict-log-asked}
+use Rattle.machine.proofs.AcceptedMeans.{log-asked, acquire-asked, log-release-asked, release-asked, flush-log-asked, fence-asked}
+use Rattle.machine.proofs.AcceptedMeans.{prune-asked, evict-log-asked}
 use Rattle.machine.proofs.Beginnings.{machineWith, AllIdle, each-log, releases-nothing, lock-free, freshLogs, fresh-all, on-start}
 use Rattle.accesses.proofs.ClockLaws.{clockAt-join, clockAt-raised-other, clockAt-raised-own, clockAt-none, start-raised}
 use Rattle.machine.proofs.Sizes.{Sized, effect-sized, begin-sized}
@@ -92,8 +95,8 @@ pub record Counted (machine : Machine) : Type 0 where
   pub sized : Sized machine
   pub nextBound : (thread : ℕ) → nextOf (logOf machine thread) ≤ 1000001
   pub headBound : (thread : ℕ) → headOf (logOf machine thread) ≤ nextOf (logOf machine thread)
-  pub counts : (lock : ℕ) → lockOf machine lock .count .0 + (sumBy closingOf (machine .logs) + 4) ≤ sumBy nextOf (machine .logs)
-  pub prunings : (lock : ℕ) → lockOf machine lock .pruned .0 + 4 ≤ sumBy headOf (machine .logs)
+  pub counts : (lock : ℕ) → lockOf machine lock .count .0 + (sumBy closingOf (machine .logs) + threadCount) ≤ sumBy nextOf (machine .logs)
+  pub prunings : (lock : ℕ) → lockOf machine lock .pruned .0 + threadCount ≤ sumBy headOf (machine .logs)
   pub clocks : (thread : ℕ) → Within (machine .logs) (clockOf machine thread)
   pub lockClocks : (lock : ℕ) → Within (machine .logs) (lockClockOf machine lock)
 
@@ -102,16 +105,18 @@ pub count-bound : (machine : Machine) → Counted machine → (lock : ℕ) → l
 count-bound machine counted lock =
     let most = sum-bound nextOf (machine .logs) 1000001 noLog (λ thread inRange. counted .nextBound thread) in
     let four = counted .sized .logs in
-    let total : sumBy nextOf (machine .logs) ≤ 4 * 1000001 = rw four at most in
+    let total : sumBy nextOf (machine .logs) ≤ threadCount * 1000001 = rw four at most in
     let bound = counted .counts lock in
     omega arith
 
 -- and no more regions that end in a RELEASE of a lock are pruned
 pub pruned-bound : (machine : Machine) → Counted machine → (lock : ℕ) → lockOf machine lock .pruned .0 ≤ 4000000
 pruned-bound machine counted lock =
-    let most = sum-bound headOf (machine .logs) 1000001 noLog (λ thread inRange. omega (arith, counted .headBound thread, counted .nextBound thread)) in
+    let most =
+    sum-bound headOf (machine .logs) 1000001 noLog
+    (λ thread inRange. omega (arith, counted .headBound thread, counted .nextBound thread)) in
     let four = counted .sized .logs in
-    let total : sumBy headOf (machine .logs) ≤ 4 * 1000001 = rw four at most in
+    let total : sumBy headOf (machine .logs) ≤ threadCount * 1000001 = rw four at most in
     let bound = counted .prunings lock in
     omega arith
 
@@ -140,14 +145,15 @@ within-log : (logs : List Log) (thread : ℕ) (log : Log) → thread < length lo
     → nextOf (getD logs thread noLog) + closingOf log ≤ nextOf log + closingOf (getD logs thread noLog) → (clock : Clock)
     → Within logs clock → Within (set logs thread log) clock
 within-log logs thread log inRange grows clock within =
-    set-cases logs thread log noLog inRange (λ other state. clockAt clock other + closingOf state ≤ nextOf state) (omega (arith, within thread)) (λ other differs. within other)
+    set-cases logs thread log noLog inRange (λ other state. clockAt clock other + closingOf state ≤ nextOf state)
+    (omega (arith, within thread)) (λ other differs. within other)
 
 -- what a join knows, one of the two knows
 within-join : (logs : List Log) (one other : Clock) → Within logs one → Within logs other → Within logs (joinOf one other)
 within-join logs one other first second thread = rw (clockAt-join one other thread) (omega (arith, first thread, second thread))
 
 -- a RELEASE step raises the clock of the thread that ends releasing
-within-raised : (logs : List Log) (thread : ℕ) (log : Log) → thread < 4 → thread < length logs
+within-raised : (logs : List Log) (thread : ℕ) (log : Log) → thread < threadCount → thread < length logs
     → nextOf (getD logs thread noLog) + closingOf log + 1 ≤ nextOf log + closingOf (getD logs thread noLog) → (clock : Clock)
     → Within logs clock → Within (set logs thread log) (raisedOf clock thread)
 within-raised logs thread log inThreads inRange grows clock within =
@@ -175,7 +181,9 @@ module _ (machine next : Machine) (counted : Counted machine) (sized : Sized nex
     lockClocks = λ lock other. rw (sameLogs, sameLockClocks) (counted .lockClocks lock other);
   }
 
-  module _ (thread : ℕ) (log : Log) (released pruned : ℕ) (inRange : thread < 4) (pays : Pays (logOf machine thread) log released pruned) (raised : (lock : ℕ) → Raised (lockOf machine lock) (lockOf next lock) released pruned) where
+  module _ (thread : ℕ) (log : Log) (released pruned : ℕ) (inRange : thread < threadCount)
+      (pays : Pays (logOf machine thread) log released pruned)
+      (raised : (lock : ℕ) → Raised (lockOf machine lock) (lockOf next lock) released pruned) where
     inLogs : thread < length (machine .logs)
     inLogs = rw (counted .sized .logs) inRange
 
@@ -189,8 +197,12 @@ module _ (machine next : Machine) (counted : Counted machine) (sized : Sized nex
         let heads = sum-set headOf (machine .logs) thread log noLog inLogs in
         record {
           sized = sized;
-          nextBound = rw isSet (set-cases (machine .logs) thread log noLog inLogs (λ other state. nextOf state ≤ 1000001) (pays .bound) (λ other differs. counted .nextBound other));
-          headBound = rw isSet (set-cases (machine .logs) thread log noLog inLogs (λ other state. headOf state ≤ nextOf state) (pays .live) (λ other differs. counted .headBound other));
+          nextBound =
+              rw isSet (set-cases (machine .logs) thread log noLog inLogs (λ other state. nextOf state ≤ 1000001)
+              (pays .bound) (λ other differs. counted .nextBound other));
+          headBound =
+              rw isSet (set-cases (machine .logs) thread log noLog inLogs (λ other state. headOf state ≤ nextOf state)
+              (pays .live) (λ other differs. counted .headBound other));
           counts = λ lock. rw isSet (omega (arith, counted .counts lock, raised lock .counts));
           prunings = λ lock. rw isSet (omega (arith, counted .prunings lock, raised lock .prunings));
           clocks = rw isSet clocks;
@@ -202,7 +214,8 @@ module _ (machine next : Machine) (counted : Counted machine) (sized : Sized nex
         → next .«lock_clocks» ≡ machine .«lock_clocks» → Counted next
     counted-log isSet sameClocks sameLockClocks =
         let grows = within-log (machine .logs) thread log inLogs (omega arith) in
-        counted-change isSet (λ owner. rw sameClocks (grows (clockOf machine owner) (counted .clocks owner))) (λ lock. rw sameLockClocks (grows (lockClockOf machine lock) (counted .lockClocks lock)))
+        counted-change isSet (λ owner. rw sameClocks (grows (clockOf machine owner) (counted .clocks owner)))
+        (λ lock. rw sameLockClocks (grows (lockClockOf machine lock) (counted .lockClocks lock)))
 
 closing-most : (log : Log) → closingOf log ≤ 1
 closing-most log = by-flag (isReleasing (log .tail .releasing))
@@ -247,12 +260,19 @@ pruned-locks locks (Release held count) lock = changed-lock locks held _ 0 1 (om
 
 pub effect-counted : (machine : Machine) → Counted machine → (kind : Kind) (thread place value : ℕ)
     → AllFail (testsOf machine kind thread place value) → Counted (effect machine kind thread place value .machine)
-unfolding effect loadEffect logEffect storeEffect acquireEffect logReleaseEffect releaseEffect flushEffect flushLogEffect fenceEffect pruneEffect evictEffect evictLogEffect loadedOf loggedCellOf flushLogOf flushedTail endReleaseOf releasedTail fenceLogOf fencedTail evictSlotOf
-effect-counted machine counted LOAD thread place value fails = counted-same machine _ counted (effect-sized machine (counted .sized) LOAD thread place value fails) refl refl refl refl
+unfolding effect loadEffect logEffect storeEffect acquireEffect logReleaseEffect releaseEffect flushEffect
+    flushLogEffect fenceEffect pruneEffect evictEffect evictLogEffect loadedOf loggedCellOf flushLogOf flushedTail
+    endReleaseOf releasedTail fenceLogOf fencedTail evictSlotOf
+effect-counted machine counted LOAD thread place value fails =
+    counted-same machine _ counted (effect-sized machine (counted .sized) LOAD thread place value fails) refl refl refl refl
 effect-counted machine counted LOG thread place value fails =
     let asked = log-asked machine thread place value fails in
-    counted-log machine _ counted (effect-sized machine (counted .sized) LOG thread place value fails) thread _ 0 0 (asked .inThread) (append-pays (logOf machine thread) (Store place (cachedAt (machine .cache) place)) (asked .room) (counted .headBound thread)) (λ lock. stays (lockOf machine lock)) refl refl refl
-effect-counted machine counted STORE thread place value fails = counted-same machine _ counted (effect-sized machine (counted .sized) STORE thread place value fails) refl refl refl refl
+    counted-log machine _ counted (effect-sized machine (counted .sized) LOG thread place value fails) thread _ 0 0
+    (asked .inThread)
+    (append-pays (logOf machine thread) (Store place (cachedAt (machine .cache) place)) (asked .room) (counted .headBound thread))
+    (λ lock. stays (lockOf machine lock)) refl refl refl
+effect-counted machine counted STORE thread place value fails =
+    counted-same machine _ counted (effect-sized machine (counted .sized) STORE thread place value fails) refl refl refl refl
 effect-counted machine counted ACQUIRE thread place value fails =
     let asked = acquire-asked machine thread place value fails in
     let inLogs : thread < length (machine .logs) = rw (counted .sized .logs) (asked .inThread) in
@@ -280,12 +300,16 @@ effect-counted machine counted ACQUIRE thread place value fails =
     noClock
     inClocks
     (λ owner clock. Within (set (machine .logs) thread (enterOf (logOf machine thread) event)) clock)
-    (grows _ (within-join (machine .logs) (clockOf machine thread) (lockClockOf machine place) (counted .clocks thread) (counted .lockClocks place)))
+    (grows _ (within-join (machine .logs) (clockOf machine thread) (lockClockOf machine place) (counted .clocks thread)
+    (counted .lockClocks place)))
     (λ owner differs. grows (clockOf machine owner) (counted .clocks owner)))
     (λ lock. grows (lockClockOf machine lock) (counted .lockClocks lock))
 effect-counted machine counted LOGREL thread place value fails =
     let asked = log-release-asked machine thread place value fails in
-    counted-log machine _ counted (effect-sized machine (counted .sized) LOGREL thread place value fails) thread _ 0 0 (asked .inThread) (append-pays (logOf machine thread) (Release place (lockOf machine place .count)) (asked .room) (counted .headBound thread)) (λ lock. stays (lockOf machine lock)) refl refl refl
+    counted-log machine _ counted (effect-sized machine (counted .sized) LOGREL thread place value fails) thread _ 0 0
+    (asked .inThread)
+    (append-pays (logOf machine thread) (Release place (lockOf machine place .count)) (asked .room) (counted .headBound thread))
+    (λ lock. stays (lockOf machine lock)) refl refl refl
 effect-counted machine counted RELEASE thread place value fails =
     let asked = release-asked machine thread place value fails in
     let inLogs : thread < length (machine .logs) = rw (counted .sized .logs) (asked .inThread) in
@@ -293,7 +317,8 @@ effect-counted machine counted RELEASE thread place value fails =
     let inLocks : place < length (machine .«lock_clocks») = rw (counted .sized .lockClocks) (asked .inLock) in
     let clock = clockOf machine thread in
     let ended = endReleaseOf (logOf machine thread) in
-    let pays : Pays (logOf machine thread) ended 1 0 = ends-pays (logOf machine thread) place (asked .isReleasingIt) (counted .nextBound thread) (counted .headBound thread) in
+    let pays : Pays (logOf machine thread) ended 1 0 =
+    ends-pays (logOf machine thread) place (asked .isReleasingIt) (counted .nextBound thread) (counted .headBound thread) in
     let grows = within-log (machine .logs) thread ended inLogs (omega arith) in
     counted-change
     machine
@@ -326,18 +351,32 @@ effect-counted machine counted RELEASE thread place value fails =
     (λ lock state. Within (set (machine .logs) thread ended) state)
     (grows clock (counted .clocks thread))
     (λ lock differs. grows (lockClockOf machine lock) (counted .lockClocks lock)))
-effect-counted machine counted FLUSH thread place value fails = counted-same machine _ counted (effect-sized machine (counted .sized) FLUSH thread place value fails) refl refl refl refl
+effect-counted machine counted FLUSH thread place value fails =
+    counted-same machine _ counted (effect-sized machine (counted .sized) FLUSH thread place value fails) refl refl refl refl
 effect-counted machine counted FLUSHLOG thread place value fails =
-    counted-log machine _ counted (effect-sized machine (counted .sized) FLUSHLOG thread place value fails) thread _ 0 0 (flush-log-asked machine thread place value fails) (omega (arith, counted .nextBound thread, counted .headBound thread)) (λ lock. stays (lockOf machine lock)) refl refl refl
+    counted-log machine _ counted (effect-sized machine (counted .sized) FLUSHLOG thread place value fails) thread _ 0 0
+    (flush-log-asked machine thread place value fails)
+    (omega (arith, counted .nextBound thread, counted .headBound thread)) (λ lock. stays (lockOf machine lock)) refl
+    refl refl
 effect-counted machine counted FENCE thread place value fails =
-    counted-log machine _ counted (effect-sized machine (counted .sized) FENCE thread place value fails) thread _ 0 0 (fence-asked machine thread place value fails) (omega (arith, counted .nextBound thread, counted .headBound thread)) (λ lock. stays (lockOf machine lock)) refl refl refl
+    counted-log machine _ counted (effect-sized machine (counted .sized) FENCE thread place value fails) thread _ 0 0
+    (fence-asked machine thread place value fails)
+    (omega (arith, counted .nextBound thread, counted .headBound thread)) (λ lock. stays (lockOf machine lock)) refl
+    refl refl
 effect-counted machine counted PRUNE thread place value fails =
     let asked = prune-asked machine thread place value fails in
     let log = logOf machine thread in
-    counted-log machine _ counted (effect-sized machine (counted .sized) PRUNE thread place value fails) thread _ 0 1 (asked .inThread) (prune-pays log (asked .isFinishedRegion) (counted .nextBound thread) (counted .headBound thread)) (pruned-locks (machine .locks) (liveEvent log (oldestRegion log - 1))) refl refl refl
-effect-counted machine counted EVICT thread place value fails = counted-same machine _ counted (effect-sized machine (counted .sized) EVICT thread place value fails) refl refl refl refl
+    counted-log machine _ counted (effect-sized machine (counted .sized) PRUNE thread place value fails) thread _ 0 1
+    (asked .inThread)
+    (prune-pays log (asked .isFinishedRegion) (counted .nextBound thread) (counted .headBound thread))
+    (pruned-locks (machine .locks) (liveEvent log (oldestRegion log - 1))) refl refl refl
+effect-counted machine counted EVICT thread place value fails =
+    counted-same machine _ counted (effect-sized machine (counted .sized) EVICT thread place value fails) refl refl refl refl
 effect-counted machine counted EVICTLOG thread place value fails =
-    counted-log machine _ counted (effect-sized machine (counted .sized) EVICTLOG thread place value fails) thread _ 0 0 (evict-log-asked machine thread place value fails .inThread) (omega (arith, counted .nextBound thread, counted .headBound thread)) (λ lock. stays (lockOf machine lock)) refl refl refl
+    counted-log machine _ counted (effect-sized machine (counted .sized) EVICTLOG thread place value fails) thread _ 0 0
+    (evict-log-asked machine thread place value fails .inThread)
+    (omega (arith, counted .nextBound thread, counted .headBound thread)) (λ lock. stays (lockOf machine lock)) refl
+    refl refl
 
 -- at a beginning the counts are 0, and each clock knows of no step, but that a thread's own number is 1
 module _ (cells : List ℕ) (logs : List Log) (all : AllIdle logs) where
@@ -347,18 +386,19 @@ module _ (cells : List ℕ) (logs : List Log) (all : AllIdle logs) where
   begin-within : (owner : ℕ) → Within logs (getD startClocks owner noClock)
   begin-within owner =
       by-cases
-      (decLt owner 4)
+      (decLt owner threadCount)
       (λ inRange. rw (start-raised owner inRange) (within-own inRange))
-      (λ over. let past : 4 ≤ owner = omega arith in rw (List·getD-eq-default startClocks noClock {n = owner} past) none-within)
+      (λ over. let past : threadCount ≤ owner = omega arith in rw (List·getD-eq-default startClocks noClock {n = owner} past) none-within)
     where
       none-within : Within logs noClock
       none-within thread = rw (clockAt-none thread, closing-none thread) (omega arith)
 
-      within-own : owner < 4 → Within logs (raisedOf noClock owner)
+      within-own : owner < threadCount → Within logs (raisedOf noClock owner)
       within-own inRange thread =
           by-cases
           (ℕ-discrete thread owner)
-          (λ same. rw (same, clockAt-raised-own noClock owner inRange, clockAt-none owner, closing-none owner) (omega (arith, all .idle owner inRange .headLeast, all .idle owner inRange .nextIs)))
+          (λ same. rw (same, clockAt-raised-own noClock owner inRange, clockAt-none owner, closing-none owner)
+          (omega (arith, all .idle owner inRange .headLeast, all .idle owner inRange .nextIs)))
           (λ differs. rw (clockAt-raised-other noClock owner thread differs) (none-within thread))
 
   pub begin-counted : Counted (machineWith cells logs)
@@ -366,7 +406,8 @@ module _ (cells : List ℕ) (logs : List Log) (all : AllIdle logs) where
       let four = all .forThreads in
       let none = sum-bound closingOf logs 0 noLog (λ thread inRange. omega (arith, closing-none thread)) in
       let heads = sum-least headOf logs noLog (λ thread inRange. all .idle thread (omega arith) .headLeast) in
-      let nexts = sum-least nextOf logs noLog (λ thread inRange. let is = all .idle thread (omega arith) in omega (arith, is .headLeast, is .nextIs)) in
+      let nexts =
+      sum-least nextOf logs noLog (λ thread inRange. let is = all .idle thread (omega arith) in omega (arith, is .headLeast, is .nextIs)) in
       record {
         sized = begin-sized cells logs all;
         nextBound = each-log logs all (λ log. nextOf log ≤ 1000001) (λ log is. omega (arith, is .nextIs, is .headMost)) (omega arith);
@@ -374,7 +415,7 @@ module _ (cells : List ℕ) (logs : List Log) (all : AllIdle logs) where
         counts = λ lock. rw (lock-free logs all cells lock) (omega arith);
         prunings = λ lock. rw (lock-free logs all cells lock) (omega arith);
         clocks = begin-within;
-        lockClocks = λ lock. rw (getD-blank 8 lock noClock) (begin-within 4);
+        lockClocks = λ lock. rw (getD-blank lockCount lock noClock) (begin-within threadCount);
       }
 
 pub start-counted : (words : List ℕ) → Counted (startOf words .machine)

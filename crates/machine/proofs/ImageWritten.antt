@@ -38,7 +38,8 @@ module _ (list rest : List ℕ) (at : ℕ) (fits : at ≤ length list) where
 -- a part up to the end that was lent comes back in its place
 pub part-back : (list part : List ℕ) (at : ℕ) → take at list ++ (part ++ drop (length list - at) (drop at list)) ≡ take at list ++ part
 part-back list part at =
-    ap (λ (rest : List ℕ). take at list ++ (part ++ rest)) (drop-of-length-le (drop at list) {i = length list - at} (omega (arith, length-drop at list))) ∙
+    ap (λ (rest : List ℕ). take at list ++ (part ++ rest))
+    (drop-of-length-le (drop at list) {i = length list - at} (omega (arith, length-drop at list))) ∙
     ap (λ (rest : List ℕ). take at list ++ rest) (append-nil part)
 
 -- and what was lent is the rest of the list
@@ -49,13 +50,16 @@ part-lent list at = take-all (length list - at) (drop at list) (omega (arith, le
 abbrev headed : Log → ℕ → List ℕ → List ℕ
 headed log thread image = set image (headsAt + thread) (log .head .0)
 
-module _ (log : Log) (thread : ℕ) (image : List ℕ) (inThread : thread < threadCount) (long : length image ≡ imageWords) (words : length (wordsOf (log .persisted)) ≡ stretchWords) where
+module _ (log : Log) (thread : ℕ) (image : List ℕ) (inThread : thread < threadCount) (long : length image ≡ imageWords)
+    (words : length (wordsOf (log .persisted)) ≡ stretchWords) where
   headed-long : length (headed log thread image) ≡ imageWords
   headed-long = length-set image (headsAt + thread) (log .head .0) ∙ long
 
-  into-is : logInto log thread image ≡ take (stretchAt thread) (headed log thread image) ++ (wordsOf (log .persisted) ++ drop stretchWords (drop (stretchAt thread) (headed log thread image)))
+  into-is : logInto log thread image ≡ take (stretchAt thread) (headed log thread image) ++
+      (wordsOf (log .persisted) ++ drop stretchWords (drop (stretchAt thread) (headed log thread image)))
   unfolding logInto writtenOf
-  into-is = rw (le-ltb (length (drop (stretchAt thread) (headed log thread image))) stretchWords (simp length-drop (omega (arith, headed-long))))
+  into-is =
+      rw (le-ltb (length (drop (stretchAt thread) (headed log thread image))) stretchWords (simp length-drop (omega (arith, headed-long))))
 
   pub into-long : length (logInto log thread image) ≡ imageWords
   into-long = rw into-is (simp (length-append, length-take, length-drop) (omega (arith, headed-long, words)))
@@ -75,7 +79,8 @@ module _ (log : Log) (thread : ℕ) (image : List ℕ) (inThread : thread < thre
   into-stretch index below =
       rw into-is
       (in-part (headed log thread image) _ (stretchAt thread) (omega (arith, headed-long)) index ∙
-      List·getD-append (wordsOf (log .persisted)) (drop stretchWords (drop (stretchAt thread) (headed log thread image))) 0 index (omega arith))
+      List·getD-append (wordsOf (log .persisted))
+      (drop stretchWords (drop (stretchAt thread) (headed log thread image))) 0 index (omega arith))
 
 -- what an image holds once all cells, and the heads and stretches of the threads below this one, are written
 pub record WrittenTo (machine : Machine) (image : List ℕ) (thread : ℕ) : Type 0 where
@@ -92,18 +97,22 @@ module _ (machine : Machine) (reached : Reached machine) (cells : length (machin
   words : (thread : ℕ) → thread < threadCount → length (wordsOf (logOf machine thread .persisted)) ≡ stretchWords
   words thread inThread = length-words (logOf machine thread .persisted) ∙ ap (λ count. count * entryWords) (slots thread inThread)
 
-  pub reads : Reads (imageOf machine) (machine .cache .persisted) (λ thread. logOf machine thread .head .0) (λ thread. wordsOf (logOf machine thread .persisted))
+  pub reads : Reads (imageOf machine) (machine .cache .persisted) (λ thread. logOf machine thread .head .0)
+      (λ thread. wordsOf (logOf machine thread .persisted))
   unfolding imageOf
   reads = logs-read (machine .cache .persisted) (machine .logs) noLog cells (all-logs machine (reached-stretched machine reached)) slots
 
   pub cell-at : (place : ℕ) → place < headsAt → getD (imageOf machine) place 0 ≡ getD (machine .cache .persisted) place 0
-  cell-at place below = sym (getD-take headsAt (imageOf machine) place 0 below) ∙ ap (λ (front : List ℕ). getD front place 0) (reads .cellsAre)
+  cell-at place below =
+      sym (getD-take headsAt (imageOf machine) place 0 below) ∙ ap (λ (front : List ℕ). getD front place 0) (reads .cellsAre)
 
   pub word-at : (thread : ℕ) → thread < threadCount → (index : ℕ) → index < stretchWords
       → getD (imageOf machine) (stretchAt thread + index) 0 ≡ getD (wordsOf (logOf machine thread .persisted)) index 0
   unfolding stretchOf
   word-at thread inThread index below =
-      let stretch : take stretchWords (drop (stretchAt thread) (imageOf machine)) ≡ wordsOf (logOf machine thread .persisted) = rw (lt-ltb thread 4 inThread, eq-eqb (length (imageOf machine)) imageWords (reads .lengthIs)) at (reads .stretchIs thread inThread) in
+      let stretch : take stretchWords (drop (stretchAt thread) (imageOf machine)) ≡ wordsOf (logOf machine thread .persisted) =
+      rw (lt-ltb thread threadCount inThread, eq-eqb (length (imageOf machine)) imageWords (reads .lengthIs)) at
+      (reads .stretchIs thread inThread) in
       sym (getD-drop (stretchAt thread) (imageOf machine) index 0) ∙
       sym (getD-take stretchWords (drop (stretchAt thread) (imageOf machine)) index 0 below) ∙
       ap (λ (part : List ℕ). getD part index 0) stretch
@@ -116,7 +125,10 @@ module _ (machine : Machine) (reached : Reached machine) (cells : length (machin
         within = omega arith;
         cells = cells;
         as-long = ap length is ∙ simp (length-append, length-drop) (omega arith);
-        front = λ place below. ap (λ (l : List ℕ). getD l place 0) is ∙ List·getD-append (machine .cache .persisted) (drop cellCount image) 0 place (omega arith) ∙ sym (cell-at place (omega arith));
+        front = λ place below.
+            ap (λ (l : List ℕ). getD l place 0) is ∙
+            List·getD-append (machine .cache .persisted) (drop cellCount image) 0 place (omega arith) ∙
+            sym (cell-at place (omega arith));
         back = λ place from below. absurd (omega arith);
       }
 
@@ -141,7 +153,8 @@ module _ (machine : Machine) (reached : Reached machine) (cells : length (machin
             (λ past.
             let index : ℕ = place - stretchAt thread in
             let here : place ≡ stretchAt thread + index = omega arith in
-            rw here (into-stretch log thread image inThread long whole index (omega arith) ∙ sym (word-at thread inThread index (omega arith))));
+            rw here (into-stretch log thread image inThread long whole index (omega arith) ∙
+            sym (word-at thread inThread index (omega arith))));
       }
 
   -- all threads

@@ -33,7 +33,8 @@ module _ (machine : Machine) (thread place value : ℕ) where
 
   pub input-accepted : (number : ℕ) (kind : Kind) → kindOf number ≡ some kind
       → numberOf (inputAnswer (kindOf number) thread place value) ≡ 0
-      → stepOf machine number thread place value ≡ unless (refused machine) (stateTests machine kind thread place) (effect machine kind thread place value)
+      → stepOf machine number thread place value ≡
+      unless (refused machine) (stateTests machine kind thread place) (effect machine kind thread place value)
   unfolding stepOf stepOfKind
   input-accepted number kind isKind isAccepted =
       rw isKind

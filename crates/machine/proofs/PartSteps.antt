@@ -1,5 +1,5 @@
--- Each kind's step, where its input is accepted: what its part function leaves of the machine's parts, put in their places, or the refusal that
--- the part function answers, and the machine as it was.
+-- Each kind's step, where its input is accepted: what its part function leaves of the machine's parts, put in their places, or the
+-- refusal that the part function answers, and the machine as it was.
 use Prim.Native.Nat.{ℕ, zero, _-_}
 use native.Mathlib.Omega.{arith}
 use mathlib.Core.Path.{_≡_, refl, sym, ap, _∙_}
@@ -16,7 +16,8 @@ use Rattle.log.specs.declared.Changed.{Changed}
 use Rattle.undo.specs.Events.{liveEvent, enterOf, endReleaseOf, placeOf}
 use Rattle.undo.specs.Regions.{oldestRegion, storeTestsOn}
 use Rattle.undo.specs.declared.Event.the-variants.{Store, Acquire, Release}
-use Rattle.kinds.specs.Kinds.{Kind, LOAD, LOG, STORE, ACQUIRE, LOGREL, RELEASE, FLUSH, FLUSHLOG, FENCE, PRUNE, EVICT, EVICTLOG, kindOf, inputAnswer}
+use Rattle.kinds.specs.Kinds.{Kind, LOAD, LOG, STORE, ACQUIRE, LOGREL, RELEASE, FLUSH, FLUSHLOG, FENCE, PRUNE, EVICT, EVICTLOG, kindOf}
+use Rattle.kinds.specs.Kinds.{inputAnswer}
 use Rattle.accesses.specs.Clocks.{clockAt, joinOf, raiseOf, loadedOf, loggedCellOf}
 use Rattle.accesses.specs.Loads.{loadOn}
 use Rattle.accesses.specs.Logs.{logOn}
@@ -24,12 +25,15 @@ use Rattle.accesses.specs.declared.Loaded.{Loaded}
 use Rattle.accesses.specs.declared.Logged.{Logged}
 use Rattle.accesses.proofs.ClockLaws.{raise-grows}
 use Rattle.locks.specs.Locks.{takenBy, freeOf, countedLocks}
-use Rattle.locks.specs.LockSteps.{acquireOn, logReleaseOn, releaseOn, pruneOn}
+use Rattle.locks.specs.LockSteps.{acquireOn, logReleaseOn, releaseOn}
 use Rattle.locks.specs.declared.Handed.{Handed}
-use Rattle.locks.specs.declared.Pruned.{Pruned}
 use Rattle.locks.proofs.LockLaws.{free-grows, counted-grows}
-use Rattle.machine.specs.Effects.{effect, loadEffect, logEffect, storeEffect, acquireEffect, logReleaseEffect, releaseEffect, pruneEffect, evictLogEffect}
-use Rattle.machine.specs.Holds.{logOf, lockOf, clockOf, lockClockOf, withLog, withLocks, withLock, withClock, withLockClock, withAccesses}
+use Rattle.prune.specs.Pruning.{pruneOn}
+use Rattle.prune.specs.declared.Pruned.{Pruned}
+use Rattle.machine.specs.Effects.{effect, loadEffect, logEffect, storeEffect, acquireEffect, logReleaseEffect, releaseEffect}
+use Rattle.machine.specs.Effects.{pruneEffect, evictLogEffect}
+use Rattle.machine.specs.Holds.{logOf, lockOf, clockOf, lockClockOf, withLog, withLocks, withLock, withClock, withLockClock}
+use Rattle.machine.specs.Holds.{withAccesses}
 use Rattle.machine.specs.Refusals.{stateTests, loadTests, logTests, storeTests, acquireTests, logReleaseTests}
 use Rattle.machine.specs.Steps.{refused, stepOf}
 use Rattle.machine.specs.declared.Machine.{Machine}
@@ -81,7 +85,8 @@ Accepts number thread place value = numberOf (inputAnswer (kindOf number) thread
 module _ (machine : Machine) (thread place : ℕ) where
   pub load-step : Accepts 1 thread place 0
       → let loaded = loadOn (machine .accesses) (clockOf machine thread) thread place (cachedAt (machine .cache) place) in
-      Tells machine (stepOf machine 1 thread place 0) (loaded .answer) (record { answer = loaded .answer; machine = withAccesses machine (loaded .accesses) })
+      Tells machine (stepOf machine 1 thread place 0) (loaded .answer)
+      (record { answer = loaded .answer; machine = withAccesses machine (loaded .accesses) })
   unfolding kindOf loadOn stateTests loadTests effect loadEffect
   load-step isAccepted =
       by-answer
@@ -105,8 +110,10 @@ module _ (machine : Machine) (thread place : ℕ) where
       (λ fails. refl)
 
   pub log-step : Accepts 2 thread place 0
-      → let logged = logOn (logOf machine thread) (machine .accesses) (clockOf machine thread) thread place (cachedAt (machine .cache) place) in
-      Tells machine (stepOf machine 2 thread place 0) (logged .answer) (record { answer = logged .answer; machine = withAccesses (withLog machine thread (logged .log)) (logged .accesses) })
+      → let logged =
+      logOn (logOf machine thread) (machine .accesses) (clockOf machine thread) thread place (cachedAt (machine .cache) place) in
+      Tells machine (stepOf machine 2 thread place 0) (logged .answer)
+      (record { answer = logged .answer; machine = withAccesses (withLog machine thread (logged .log)) (logged .accesses) })
   unfolding kindOf logOn stateTests logTests effect logEffect
   log-step isAccepted =
       by-answer
@@ -125,14 +132,21 @@ module _ (machine : Machine) (thread place : ℕ) where
         accesses = loggedCellOf (machine .accesses) thread place (clockAt (clockOf machine thread) thread);
       })
       (λ (logged : Logged). logged .answer)
-      (λ (logged : Logged). record { answer = logged .answer; machine = withAccesses (withLog machine thread (logged .log)) (logged .accesses) })
+      (λ (logged : Logged).
+      record { answer = logged .answer; machine = withAccesses (withLog machine thread (logged .log)) (logged .accesses) })
       (λ answer. refl)
       refl
       (λ fails. refl)
 
   pub acquire-step : Accepts 4 thread place 0
-      → let handed = acquireOn (logOf machine thread) (lockOf machine place) (clockOf machine thread) (lockClockOf machine place) thread place in
-      Tells machine (stepOf machine 4 thread place 0) (handed .answer) (record { answer = handed .answer; machine = withClock (withLock (withLog machine thread (handed .log)) place (handed .lock)) thread (handed .clock) })
+      → let handed =
+      acquireOn (logOf machine thread) (lockOf machine place) (clockOf machine thread) (lockClockOf machine place) thread place in
+      Tells machine (stepOf machine 4 thread place 0) (handed .answer)
+      (record {
+        answer =
+            handed .answer;
+        machine = withClock (withLock (withLog machine thread (handed .log)) place (handed .lock)) thread (handed .clock);
+      })
   unfolding kindOf acquireOn stateTests acquireTests effect acquireEffect
   acquire-step isAccepted =
       by-answer
@@ -162,7 +176,8 @@ module _ (machine : Machine) (thread place : ℕ) where
 
   pub log-release-step : Accepts 5 thread place 0
       → let changed = logReleaseOn (logOf machine thread) (lockOf machine place) thread place in
-      Tells machine (stepOf machine 5 thread place 0) (changed .answer) (record { answer = changed .answer; machine = withLog machine thread (changed .log) })
+      Tells machine (stepOf machine 5 thread place 0) (changed .answer)
+      (record { answer = changed .answer; machine = withLog machine thread (changed .log) })
   unfolding kindOf logReleaseOn stateTests logReleaseTests effect logReleaseEffect
   log-release-step isAccepted =
       by-answer
@@ -187,7 +202,8 @@ module _ (machine : Machine) (thread place : ℕ) where
 
   pub evict-log-step : Accepts 12 thread place 0
       → let changed = evictedOf (logOf machine thread) place in
-      Tells machine (stepOf machine 12 thread place 0) (changed .answer) (record { answer = changed .answer; machine = withLog machine thread (changed .log) })
+      Tells machine (stepOf machine 12 thread place 0) (changed .answer)
+      (record { answer = changed .answer; machine = withLog machine thread (changed .log) })
   unfolding kindOf evictedOf stateTests effect evictLogEffect
   evict-log-step isAccepted =
       by-answer
@@ -242,7 +258,8 @@ releasedMachine machine thread place handed =
 module _ (machine : Machine) (counted : Counted machine) (thread place : ℕ) where
   pub release-step : Accepts 6 thread place 0
       → let handed = releaseOn (logOf machine thread) (lockOf machine place) (clockOf machine thread) thread place in
-      Tells machine (stepOf machine 6 thread place 0) (handed .answer) (record { answer = handed .answer; machine = releasedMachine machine thread place handed })
+      Tells machine (stepOf machine 6 thread place 0) (handed .answer)
+      (record { answer = handed .answer; machine = releasedMachine machine thread place handed })
   unfolding kindOf releaseOn stateTests effect releaseEffect
   release-step isAccepted =
       by-answer
@@ -272,7 +289,8 @@ module _ (machine : Machine) (counted : Counted machine) (thread place : ℕ) wh
 
   pub prune-step : Accepts 10 thread 0 0
       → let pruned = pruneOn (logOf machine thread) (machine .cache) (machine .locks) in
-      Tells machine (stepOf machine 10 thread 0 0) (pruned .answer) (record { answer = pruned .answer; machine = withLocks (withLog machine thread (pruned .log)) (pruned .locks) })
+      Tells machine (stepOf machine 10 thread 0 0) (pruned .answer)
+      (record { answer = pruned .answer; machine = withLocks (withLog machine thread (pruned .log)) (pruned .locks) })
   unfolding kindOf pruneOn stateTests effect pruneEffect
   prune-step isAccepted =
       let log = logOf machine thread in

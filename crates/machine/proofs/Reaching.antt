@@ -25,5 +25,7 @@ step-reached machine kind thread place value reached =
     record {
       words = reached .words;
       steps = reached .steps ++ (step ∷ []);
-      leads = ap (λ (before : Machine). stepWith before step .machine) (reached .leads) ∙ rw (after-then (startOf (reached .words) .machine) (reached .steps) step);
+      leads =
+          ap (λ (before : Machine). stepWith before step .machine) (reached .leads) ∙
+          rw (after-then (startOf (reached .words) .machine) (reached .steps) step);
     }

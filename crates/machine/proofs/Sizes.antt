@@ -1,10 +1,9 @@
--- The machine's arrays keep their lengths, and what stands at a number after a change of one of them.
-use Prim.Native.Nat.{ℕ, _<_, _-_}
+-- The machine's arrays keep their lengths.
+use Prim.Native.Nat.{ℕ, _-_}
 use mathlib.Core.Path.{_≡_, refl}
-use mathlib.Core.Logic.{_≢_}
 use mathlib.Core.List.{List}
 use lib.ListN.{length, length-set}
-use lib.Seq.{getD-set-same, getD-set-other}
+use Rattle.sizes.specs.Sizes.{threadCount, lockCount}
 use Rattle.answer.proofs.RefusalLaws.{AllFail}
 use Rattle.undo.specs.Events.{liveEvent}
 use Rattle.log.specs.Entries.{dropOf}
@@ -13,8 +12,9 @@ use Rattle.undo.specs.declared.Event.{Event}
 use Rattle.undo.specs.declared.Event.the-variants.{Empty, Store, Acquire, Release}
 use Rattle.log.specs.declared.Log.{Log}
 use Rattle.accesses.specs.Clocks.{loadedOf, loggedCellOf}
-use Rattle.machine.specs.Effects.{loadEffect, logEffect, storeEffect, acquireEffect, logReleaseEffect, releaseEffect, flushEffect, flushLogEffect, fenceEffect, pruneEffect, countPruned, evictEffect, evictLogEffect, effect}
-use Rattle.machine.specs.Holds.{noLog, logOf, withLog, startOf}
+use Rattle.machine.specs.Effects.{loadEffect, logEffect, storeEffect, acquireEffect, logReleaseEffect, releaseEffect, flushEffect}
+use Rattle.machine.specs.Effects.{flushLogEffect, fenceEffect, pruneEffect, countPruned, evictEffect, evictLogEffect, effect}
+use Rattle.machine.specs.Holds.{logOf, withLog, startOf}
 use Rattle.kinds.specs.Kinds.{Kind, LOAD, LOG, STORE, ACQUIRE, LOGREL, RELEASE, FLUSH, FLUSHLOG, FENCE, PRUNE, EVICT, EVICTLOG}
 use Rattle.machine.specs.Runs.{Step, after}
 use Rattle.machine.specs.declared.Machine.{Machine}
@@ -23,10 +23,10 @@ use Rattle.machine.proofs.StepLaws.{testsOf, after-keeps}
 
 -- the lengths of the machine's arrays
 pub record Sized (machine : Machine) : Type 0 where
-  pub logs : length (machine .logs) ≡ 4
-  pub clocks : length (machine .clocks) ≡ 4
-  pub lockClocks : length (machine .«lock_clocks») ≡ 8
-  pub locks : length (machine .locks) ≡ 8
+  pub logs : length (machine .logs) ≡ threadCount
+  pub clocks : length (machine .clocks) ≡ threadCount
+  pub lockClocks : length (machine .«lock_clocks») ≡ lockCount
+  pub locks : length (machine .locks) ≡ lockCount
   pub stamps : length (machine .accesses .stamps) ≡ 512
   pub logged : length (machine .accesses .logged) ≡ 128
   pub loggers : length (machine .accesses .loggers) ≡ 128
@@ -58,7 +58,8 @@ withLog-sized machine thread log sized = record {
 
 pub effect-sized : (machine : Machine) → Sized machine → (kind : Kind) (thread place value : ℕ)
     → AllFail (testsOf machine kind thread place value) → Sized (effect machine kind thread place value .machine)
-unfolding effect loadEffect logEffect storeEffect acquireEffect logReleaseEffect releaseEffect flushEffect flushLogEffect fenceEffect pruneEffect evictEffect evictLogEffect loadedOf loggedCellOf
+unfolding effect loadEffect logEffect storeEffect acquireEffect logReleaseEffect releaseEffect flushEffect
+    flushLogEffect fenceEffect pruneEffect evictEffect evictLogEffect loadedOf loggedCellOf
 effect-sized machine sized LOAD thread place value fails = record {
   logs = sized .logs;
   clocks = sized .clocks;
@@ -125,7 +126,9 @@ effect-sized machine sized FENCE thread place value fails = record {
   loggers = sized .loggers;
 }
 effect-sized machine sized PRUNE thread place value fails =
-    pruned-sized (withLog machine thread (dropOf (logOf machine thread) (oldestRegion (logOf machine thread)))) (liveEvent (logOf machine thread) (oldestRegion (logOf machine thread) - 1)) (withLog-sized machine thread _ sized)
+    pruned-sized (withLog machine thread (dropOf (logOf machine thread) (oldestRegion (logOf machine thread))))
+    (liveEvent (logOf machine thread) (oldestRegion (logOf machine thread) - 1))
+    (withLog-sized machine thread _ sized)
 effect-sized machine sized EVICT thread place value fails = record {
   logs = sized .logs;
   clocks = sized .clocks;
@@ -151,14 +154,6 @@ begin-sized cells logs all = record {
 
 -- every machine that the start call and steps lead to has its arrays whole
 pub after-sized : (words : List ℕ) (steps : List Step) → Sized (after (startOf words .machine) steps)
-after-sized words steps = after-keeps Sized effect-sized (startOf words .machine) (on-start Sized (λ cells isLength. begin-sized cells freshLogs fresh-all) words) steps
-
--- a log that is put in place is found there, and the other threads' logs are as they were
-pub logOf-same : (machine : Machine) (thread : ℕ) (log : Log) → Sized machine → thread < 4
-    → logOf (withLog machine thread log) thread ≡ log
-logOf-same machine thread log sized inRange =
-    getD-set-same (machine .logs) thread log noLog (rw (← sized .logs) at inRange)
-
-pub logOf-other : (machine : Machine) (thread other : ℕ) (log : Log) → other ≢ thread
-    → logOf (withLog machine thread log) other ≡ logOf machine other
-logOf-other machine thread other log differs = getD-set-other (machine .logs) thread other log noLog differs
+after-sized words steps =
+    after-keeps Sized effect-sized (startOf words .machine)
+    (on-start Sized (λ cells isLength. begin-sized cells freshLogs fresh-all) words) steps

@@ -13,9 +13,11 @@ use Rattle.kinds.proofs.Inputs.{input-refuses}
 use Rattle.ring.specs.Ring.{roomTests}
 use Rattle.log.specs.Entries.{evictSlotTests}
 use Rattle.machine.specs.Effects.{effect}
-use Rattle.kinds.specs.Kinds.{Kind, LOAD, LOG, STORE, ACQUIRE, LOGREL, RELEASE, FLUSH, FLUSHLOG, FENCE, PRUNE, EVICT, EVICTLOG, kindOf, inputTests}
+use Rattle.kinds.specs.Kinds.{Kind, LOAD, LOG, STORE, ACQUIRE, LOGREL, RELEASE, FLUSH, FLUSHLOG, FENCE, PRUNE, EVICT, EVICTLOG, kindOf}
+use Rattle.kinds.specs.Kinds.{inputTests}
 use Rattle.machine.specs.Refusals.{loadTests, logTests, storeTests, acquireTests, logReleaseTests, stateTests}
-use Rattle.locks.specs.LockSteps.{releaseTests, pruneTests}
+use Rattle.locks.specs.LockSteps.{releaseTests}
+use Rattle.prune.specs.Pruning.{pruneTests}
 use Rattle.machine.specs.Runs.{Step, stepWith, after}
 use Rattle.machine.specs.Steps.{refused, stepOfKind, stepOfOption, stepOf}
 use Rattle.machine.specs.declared.Machine.{Machine}
@@ -40,7 +42,8 @@ state-refuses machine EVICTLOG thread place = (refl, tt)
 abbrev pub testsOf : Machine → Kind → ℕ → ℕ → ℕ → List Test
 testsOf machine kind thread place value = inputTests kind thread place value ++ stateTests machine kind thread place
 
-module _ (machine : Machine) (Q : Stepped → Type 0) (onRefusal : (answer : Answer) → isAccepted answer ≡ false → Q (refused machine answer)) where
+module _ (machine : Machine) (Q : Stepped → Type 0)
+    (onRefusal : (answer : Answer) → isAccepted answer ≡ false → Q (refused machine answer)) where
   kind-cases : (kind : Kind) (thread place value : ℕ)
       → (AllFail (testsOf machine kind thread place value) → Q (effect machine kind thread place value))
       → Q (stepOfKind machine kind thread place value)
@@ -67,14 +70,16 @@ module _ (machine : Machine) (Q : Stepped → Type 0) (onRefusal : (answer : Ans
 
   -- what holds of every refusal, and of each effect whose tests all failed, holds of the step
   pub step-cases : (number thread place value : ℕ)
-      → ((kind : Kind) → kindOf number ≡ some kind → AllFail (testsOf machine kind thread place value) → Q (effect machine kind thread place value))
+      → ((kind : Kind) → kindOf number ≡ some kind → AllFail (testsOf machine kind thread place value)
+      → Q (effect machine kind thread place value))
       → Q (stepOf machine number thread place value)
   unfolding stepOf
   step-cases number thread place value onEffect = option-cases thread place value (kindOf number) onEffect
 
 -- what each effect keeps, each step keeps
 pub step-keeps : (P : Machine → Type 0) (machine : Machine) → P machine
-    → ((kind : Kind) (thread place value : ℕ) → AllFail (testsOf machine kind thread place value) → P (effect machine kind thread place value .machine))
+    → ((kind : Kind) (thread place value : ℕ) → AllFail (testsOf machine kind thread place value)
+    → P (effect machine kind thread place value .machine))
     → (number thread place value : ℕ) → P (stepOf machine number thread place value .machine)
 step-keeps P machine holds onEffect number thread place value =
     step-cases
@@ -89,7 +94,8 @@ step-keeps P machine holds onEffect number thread place value =
 
 -- what each effect keeps holds after every list of steps
 pub after-keeps : (P : Machine → Type 0)
-    → ((machine : Machine) → P machine → (kind : Kind) (thread place value : ℕ) → AllFail (testsOf machine kind thread place value) → P (effect machine kind thread place value .machine))
+    → ((machine : Machine) → P machine → (kind : Kind) (thread place value : ℕ)
+    → AllFail (testsOf machine kind thread place value) → P (effect machine kind thread place value .machine))
     → (machine : Machine) → P machine → (steps : List Step) → P (after machine steps)
 unfolding after
 after-keeps P onEffect machine holds [] = holds

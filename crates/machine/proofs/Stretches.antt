@@ -11,7 +11,8 @@ use Rattle.undo.specs.Regions.{oldestRegion}
 use Rattle.ring.specs.Ring.{slotCount}
 use Rattle.log.specs.declared.Log.{Log}
 use Rattle.log.proofs.SlotLaws.{length-persistSlot, length-persistFrom}
-use Rattle.machine.specs.Effects.{loadEffect, logEffect, storeEffect, acquireEffect, logReleaseEffect, releaseEffect, flushEffect, flushLogEffect, fenceEffect, pruneEffect, evictEffect, evictLogEffect, effect}
+use Rattle.machine.specs.Effects.{loadEffect, logEffect, storeEffect, acquireEffect, logReleaseEffect, releaseEffect, flushEffect}
+use Rattle.machine.specs.Effects.{flushLogEffect, fenceEffect, pruneEffect, evictEffect, evictLogEffect, effect}
 use Rattle.kinds.specs.Kinds.{Kind, LOAD, LOG, STORE, ACQUIRE, LOGREL, RELEASE, FLUSH, FLUSHLOG, FENCE, PRUNE, EVICT, EVICTLOG}
 use Rattle.machine.specs.Holds.{noLog, logOf, withLog, startOf}
 use Rattle.machine.specs.Runs.{Reached}
@@ -36,7 +37,9 @@ module _ (machine : Machine) (thread : ℕ) (log : Log) where
 
 effect-same : (machine : Machine) (kind : Kind) (thread place value : ℕ)
     → slotCounts (effect machine kind thread place value .machine .logs) ≡ slotCounts (machine .logs)
-unfolding effect loadEffect logEffect storeEffect acquireEffect logReleaseEffect releaseEffect flushEffect flushLogEffect fenceEffect pruneEffect evictEffect evictLogEffect appendOf flushLogOf endReleaseOf fenceLogOf evictSlotOf dropOf
+unfolding effect loadEffect logEffect storeEffect acquireEffect logReleaseEffect releaseEffect flushEffect
+    flushLogEffect fenceEffect pruneEffect evictEffect evictLogEffect appendOf flushLogOf endReleaseOf fenceLogOf
+    evictSlotOf dropOf
 effect-same machine LOAD thread place value = refl
 effect-same machine LOG thread place value = put-same machine thread _ refl
 effect-same machine STORE thread place value = refl
@@ -46,9 +49,11 @@ effect-same machine RELEASE thread place value = put-same machine thread _ refl
 effect-same machine FLUSH thread place value = refl
 effect-same machine FLUSHLOG thread place value = put-same machine thread _ refl
 effect-same machine FENCE thread place value = put-same machine thread (fenceLogOf (logOf machine thread)) (length-persistFrom _ _ _ _)
-effect-same machine PRUNE thread place value = put-same machine thread (dropOf (logOf machine thread) (oldestRegion (logOf machine thread))) refl
+effect-same machine PRUNE thread place value =
+    put-same machine thread (dropOf (logOf machine thread) (oldestRegion (logOf machine thread))) refl
 effect-same machine EVICT thread place value = refl
-effect-same machine EVICTLOG thread place value = put-same machine thread (evictSlotOf (logOf machine thread) place) (length-persistSlot _ _ _)
+effect-same machine EVICTLOG thread place value =
+    put-same machine thread (evictSlotOf (logOf machine thread) place) (length-persistSlot _ _ _)
 
 start-stretched : (words : List ℕ) → Stretched (startOf words .machine)
 unfolding freshLog slotCounts

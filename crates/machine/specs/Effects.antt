@@ -9,7 +9,8 @@ use Rattle.undo.specs.declared.Event.{Event}
 use Rattle.undo.specs.declared.Event.the-variants.{Store, Acquire, Release}
 use Rattle.accesses.specs.Clocks.{joinOf, raisedOf, loadedOf, loggedCellOf}
 use Rattle.machine.specs.Clocks.{stampNow}
-use Rattle.machine.specs.Holds.{logOf, lockOf, clockOf, lockClockOf, withCache, withLog, withAccesses, withLock, withClock, withLockClock, withLocks}
+use Rattle.machine.specs.Holds.{logOf, lockOf, clockOf, lockClockOf, withCache, withLog, withAccesses, withLock, withClock}
+use Rattle.machine.specs.Holds.{withLockClock, withLocks}
 use Rattle.locks.specs.Locks.{takenBy, freedOf, prunedLocks}
 use Rattle.kinds.specs.Kinds.{Kind, LOAD, LOG, STORE, ACQUIRE, LOGREL, RELEASE, FLUSH, FLUSHLOG, FENCE, PRUNE, EVICT, EVICTLOG}
 use Rattle.machine.specs.declared.Machine.{Machine}

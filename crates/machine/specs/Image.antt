@@ -14,7 +14,8 @@ use Rattle.machine.specs.declared.Machine.{Machine}
 -- "1,156 words: 128 kept cells; 4 heads; for threads 0 to 3, slots 0 to 63, the words kind, place, value, rank."
 unfoldable pub imageOf : Machine → List ℕ
 imageOf machine =
-    machine .cache .persisted ++ (map (λ log. log .head .0) (machine .logs) ++ flatten (map (λ log. wordsOf (log .persisted)) (machine .logs)))
+    machine .cache .persisted ++
+    (map (λ log. log .head .0) (machine .logs) ++ flatten (map (λ log. wordsOf (log .persisted)) (machine .logs)))
 
 -- an image with a thread's head, and its log's stretch from the thread's first word on
 unfoldable pub logInto : Log → ℕ → List ℕ → List ℕ

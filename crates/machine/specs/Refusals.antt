@@ -7,7 +7,8 @@ use Rattle.undo.specs.Regions.{storeTestsOn}
 use Rattle.kinds.specs.Kinds.{Kind, LOAD, LOG, STORE, ACQUIRE, LOGREL, RELEASE, FLUSH, FLUSHLOG, FENCE, PRUNE, EVICT, EVICTLOG}
 use Rattle.accesses.specs.Loads.{loadTestsOn}
 use Rattle.accesses.specs.Logs.{logTestsOn}
-use Rattle.locks.specs.LockSteps.{acquireTestsOn, logReleaseTestsOn, releaseTests, pruneTests}
+use Rattle.locks.specs.LockSteps.{acquireTestsOn, logReleaseTestsOn, releaseTests}
+use Rattle.prune.specs.Pruning.{pruneTests}
 use Rattle.machine.specs.Holds.{logOf, lockOf, clockOf}
 use Rattle.machine.specs.declared.Machine.{Machine}
 

@@ -366,7 +366,7 @@ impl Machine {
             let cache = self.cache;
             let log = self.logs[at];
             let before = self.locks;
-            let pruned = locks::prune(log, cache, before);
+            let pruned = prune::prune(log, cache, before);
             answer = pruned.answer;
             if answer::number(answer) == 0 {
                 let rest = pruned.log;

@@ -43,12 +43,15 @@ wrote-long {old} {buffer} {place} {text} so-far =
     ap length (so-far .held) ∙ simp (length-append, length-drop) (omega (arith, so-far .fits))
 
 -- one more text, which fits
-pub wrote-more : {old buffer : List ℕ} {place : ℕ} {text : List ℕ} (more : List ℕ) → Wrote old buffer place text → length text + length more ≤ length old
-    → {place' : ℕ} {buffer' : List ℕ} → place' ≡ placeAfter buffer place more → buffer' ≡ written buffer place more → Wrote old buffer' place' (text ++ more)
+pub wrote-more : {old buffer : List ℕ} {place : ℕ} {text : List ℕ} (more : List ℕ) → Wrote old buffer place text
+    → length text + length more ≤ length old
+    → {place' : ℕ} {buffer' : List ℕ} → place' ≡ placeAfter buffer place more → buffer' ≡ written buffer place more
+    → Wrote old buffer' place' (text ++ more)
 wrote-more {old} {buffer} {place} {text} more so-far fits at is =
     let long = wrote-long so-far in
     let room : place + length more ≤ length buffer = omega (arith, so-far .end) in
-    let front : take place buffer ≡ text = ap (take place) (so-far .held) ∙ take-at text (drop (length text) old) place (sym (so-far .end)) in
+    let front : take place buffer ≡ text =
+    ap (take place) (so-far .held) ∙ take-at text (drop (length text) old) place (sym (so-far .end)) in
     let back : drop (place + length more) buffer ≡ drop (length (text ++ more)) old =
     sym (drop-drop (length more) place buffer)
     ∙ ap (drop (length more)) (ap (drop place) (so-far .held) ∙ drop-at text (drop (length text) old) place (sym (so-far .end)))
@@ -78,12 +81,14 @@ upto-nothing old = record { wrote = wrote-nothing old; bound = omega arith }
 
 pub upto-more : {most : ℕ} {old buffer : List ℕ} {place : ℕ} {text : List ℕ} → Upto most old buffer place text
     → (more : List ℕ) (size : ℕ) → length more ≤ size → most + size ≤ length old
-    → {place' : ℕ} {buffer' : List ℕ} → place' ≡ placeAfter buffer place more → buffer' ≡ written buffer place more → Upto (most + size) old buffer' place' (text ++ more)
+    → {place' : ℕ} {buffer' : List ℕ} → place' ≡ placeAfter buffer place more → buffer' ≡ written buffer place more
+    → Upto (most + size) old buffer' place' (text ++ more)
 upto-more {text = text} so-far more size small room at is = record {
   wrote = wrote-more more (so-far .wrote) (omega (arith, so-far .bound)) at is;
   bound = omega (arith, so-far .bound, length-append text more);
 }
 
 -- a text at the front, which fits
-pub wrote-first : (old : List ℕ) {text : List ℕ} → length text ≤ length old → {place : ℕ} {buffer : List ℕ} → place ≡ placeAfter old 0 text → buffer ≡ written old 0 text → Wrote old buffer place text
+pub wrote-first : (old : List ℕ) {text : List ℕ} → length text ≤ length old → {place : ℕ} {buffer : List ℕ} →
+    place ≡ placeAfter old 0 text → buffer ≡ written old 0 text → Wrote old buffer place text
 wrote-first old {text} fits at is = wrote-more text (wrote-nothing old) (omega arith) at is

@@ -12,7 +12,8 @@ use Rattle.io.specs.Digits.{digits, glyph, Fewest}
 use Rattle.line.specs.Text.{placesFrom, decimalText}
 
 -- the search ends at the fewest digits that hold the number
-places-found : (more places number found : ℕ) → places ≤ found → found ≤ places + more → number < 10 ^ found → ((fewer : ℕ) → places ≤ fewer → fewer < found → 10 ^ fewer ≤ number) → placesFrom more places number ≡ found
+places-found : (more places number found : ℕ) → places ≤ found → found ≤ places + more → number < 10 ^ found →
+    ((fewer : ℕ) → places ≤ fewer → fewer < found → 10 ^ fewer ≤ number) → placesFrom more places number ≡ found
 unfolding placesFrom
 places-found zero places number found low high holds least = omega arith
 places-found (suc more) places number found low high holds least =
@@ -23,7 +24,8 @@ places-found (suc more) places number found low high holds least =
     (λ large.
     rw (le-ltb number (10 ^ places) (omega arith))
     (by-cases (decLt places found)
-    (λ less. places-found more (suc places) number found (omega arith) (omega arith) holds (λ fewer from below. least fewer (omega arith) below))
+    (λ less. places-found more (suc places) number found (omega arith) (omega arith) holds
+    (λ fewer from below. least fewer (omega arith) below))
     (λ not-less.
     let same : found ≡ places = omega arith in
     absurd (omega (arith, ap (λ (count : ℕ). 10 ^ count) same)))))
@@ -53,16 +55,9 @@ module _ (number count : ℕ) (fewest : Fewest 10 1 number count) (word : number
 -- so many digits
 length-digits : (base places number : ℕ) → length (digits base places number) ≡ places
 length-digits base zero number = refl
-length-digits base (suc places) number = length-append (digits base places (number / base)) (glyph (number % base) ∷ []) ∙ rw (length-digits base places (number / base)) (omega arith)
-
--- the search ends between its ends, and no later than at a count that holds the number
-places-least : (more places number : ℕ) → places ≤ placesFrom more places number
-unfolding placesFrom
-places-least zero places number = omega arith
-places-least (suc more) places number =
-    by-cases (decLt number (10 ^ places))
-    (λ small. rw (lt-ltb number (10 ^ places) small) (omega arith))
-    (λ large. rw (le-ltb number (10 ^ places) (omega arith)) (omega (arith, places-least more (suc places) number)))
+length-digits base (suc places) number =
+    length-append (digits base places (number / base)) (glyph (number % base) ∷ []) ∙
+    rw (length-digits base places (number / base)) (omega arith)
 
 places-most : (more places number : ℕ) → placesFrom more places number ≤ places + more
 unfolding placesFrom
@@ -72,30 +67,7 @@ places-most (suc more) places number =
     (λ small. rw (lt-ltb number (10 ^ places) small) (omega arith))
     (λ large. rw (le-ltb number (10 ^ places) (omega arith)) (omega (arith, places-most more (suc places) number)))
 
-places-enough : (more places number enough : ℕ) → places ≤ enough → number < 10 ^ enough → placesFrom more places number ≤ enough
-unfolding placesFrom
-places-enough zero places number enough low holds = low
-places-enough (suc more) places number enough low holds =
-    by-cases (decLt number (10 ^ places))
-    (λ small. rw (lt-ltb number (10 ^ places) small) low)
-    (λ large.
-    rw (le-ltb number (10 ^ places) (omega arith))
-    (by-cases (decLt places enough)
-    (λ less. places-enough more (suc places) number enough (omega arith) holds)
-    (λ not-less.
-    let same : enough ≡ places = omega arith in
-    absurd (omega (arith, ap (λ (count : ℕ). 10 ^ count) same)))))
-
 -- how many bytes a number takes
-pub decimal-some : (number : ℕ) → 1 ≤ length (decimalText number)
-unfolding decimalText
-decimal-some number = rw (length-digits 10 (placesFrom 19 1 number) number) (places-least 19 1 number)
-
 pub decimal-most : (number : ℕ) → length (decimalText number) ≤ 20
 unfolding decimalText
 decimal-most number = rw (length-digits 10 (placesFrom 19 1 number) number) (places-most 19 1 number)
-
-pub decimal-within : (number enough : ℕ) → 1 ≤ enough → number < 10 ^ enough → length (decimalText number) ≤ enough
-unfolding decimalText
-decimal-within number enough some holds =
-    rw (length-digits 10 (placesFrom 19 1 number) number) (places-enough 19 1 number enough some holds)

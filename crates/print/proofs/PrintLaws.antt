@@ -16,8 +16,10 @@ use Rattle.print.proofs.BufferLaws.{Wrote, wrote-more, wrote-long, past
 use Rattle.line.proofs.TextLaws.{drop-first}
 
 -- the pieces of a step's line, where the numbers are the answer's
-pub result-line : {most : ℕ} {old buffer : List ℕ} {place : ℕ} (number : ℕ) (answer : Answer) {given beside : ℕ} → given ≡ numberOf answer → beside ≡ valueOf answer
-    → Upto most old buffer place (ascii "n=" ++ decimalText number ++ ascii " answer=" ++ decimalText given ++ ascii " value=" ++ decimalText beside ++ ascii "\n")
+pub result-line : {most : ℕ} {old buffer : List ℕ} {place : ℕ} (number : ℕ) (answer : Answer) {given beside : ℕ}
+    → given ≡ numberOf answer → beside ≡ valueOf answer
+    → Upto most old buffer place
+    (ascii "n=" ++ decimalText number ++ ascii " answer=" ++ decimalText given ++ ascii " value=" ++ decimalText beside ++ ascii "\n")
     → Wrote old buffer place (resultText number answer)
 unfolding resultText
 result-line number answer is beside-is line = rw (sym is, sym beside-is) (line .wrote)
@@ -31,7 +33,8 @@ cell-line cell content line = line .wrote
 
 module _ (cells : List ℕ) (i : ℕ) where
   -- one more cell, which isn't 0
-  pub cells-on : i < length cells → (getD cells i 0 ≡ 0 → ⊥) → cellsText i (drop i cells) ≡ cellText i (getD cells i 0) ++ cellsText (i + 1) (drop (i + 1) cells)
+  pub cells-on : i < length cells → (getD cells i 0 ≡ 0 → ⊥) →
+      cellsText i (drop i cells) ≡ cellText i (getD cells i 0) ++ cellsText (i + 1) (drop (i + 1) cells)
   unfolding cellsText
   cells-on within some = rw (drop-first cells i within, ne-eqb (getD cells i 0) 0 some, add-one)
 
@@ -80,9 +83,17 @@ module _ (old : List ℕ) (start : ℕ) (cells : List ℕ) (fits : start + lengt
         let text = cellText i (getD cells i 0) in
         let rest = cellsText (i + 1) (drop (i + 1) cells) in
         let whole : (so-far .done ++ text) ++ rest ≡ cellsText 0 cells =
-        append-assoc (so-far .done) text rest ∙ ap (λ (tail : List ℕ). so-far .done ++ tail) (sym (cells-on cells i within some)) ∙ so-far .left in
+        append-assoc (so-far .done) text rest ∙
+        ap (λ (tail : List ℕ). so-far .done ++ tail) (sym (cells-on cells i within some)) ∙ so-far .left in
         let room : length (take start old ++ so-far .done) + length text ≤ length old =
-        omega (arith, ap length whole, length-append (so-far .done ++ text) rest, length-append (so-far .done) text, length-append (take start old) (so-far .done), before-cells) in
+        omega (
+          arith,
+          ap length whole,
+          length-append (so-far .done ++ text) rest,
+          length-append (so-far .done) text,
+          length-append (take start old) (so-far .done),
+          before-cells,
+        ) in
         record {
           done = so-far .done ++ text;
           wrote = rw (← append-assoc (take start old) (so-far .done) text) (wrote-more text (so-far .wrote) room at is);
@@ -100,7 +111,8 @@ module _ (old : List ℕ) (start : ℕ) (cells : List ℕ) (fits : start + lengt
         all .wrote .end ∙ long,
         all .wrote .held
             ∙ ap₂ (λ (text : List ℕ) (end : ℕ). take start old ++ text ++ drop end old) whole long
-            ∙ ap (λ (text : List ℕ). take start old ++ text ++ drop (start + length (cellsText 0 cells)) old) (sym (take-length (cellsText 0 cells)))
+            ∙ ap (λ (text : List ℕ). take start old ++ text ++ drop (start + length (cellsText 0 cells)) old)
+            (sym (take-length (cellsText 0 cells)))
             ∙ sym (pasted old start (cellsText 0 cells) fits),
       )
 

@@ -16,13 +16,14 @@ use Rattle.answer.specs.Lists.{someBelow}
 use Rattle.ring.specs.Ring.{slotCount}
 use Rattle.undo.specs.Events.{syncCount}
 use Rattle.undo.specs.declared.SyncCount.{SyncCount}
-use Rattle.recovery.specs.Undo.{StoredLog, entryKind, entryPlace, entryValue, hasLaterAcquire}
-use Rattle.recovery.specs.Reading.{logIn, entryIn, Good}
+use Rattle.image.specs.Stored.{StoredLog, entryKind, entryPlace, entryValue}
+use Rattle.image.specs.Reading.{logIn, entryIn, Good}
+use Rattle.image.specs.declared.Entry.{Entry}
+use Rattle.image.proofs.Searches.{search-same}
+use Rattle.image.proofs.GoodEntries.{good-acquire}
+use Rattle.recovery.specs.Undo.{hasLaterAcquire}
 use Rattle.recovery.specs.Latest.{latestAcquire, lockOf, countsOf, rowWith, countOf, withCount, rowOf, earlierOf, laterOf, Remembers}
-use Rattle.recovery.specs.declared.Entry.{Entry}
 use Rattle.recovery.specs.declared.Latest.{Latest}
-use Rattle.recovery.proofs.Searches.{search-same}
-use Rattle.recovery.proofs.GoodEntries.{good-acquire}
 
 -- the larger of two counts is larger than a third where one of them is
 larger : (count value earlier : ℕ) → (ltb count value || ltb count earlier) ≡ ltb count (cond (ltb earlier value) value earlier)
@@ -38,19 +39,24 @@ larger count value earlier =
     (λ not-less. rw (le-ltb count value (omega arith)))))
 
 -- a later ACQUIRE is left where the latest one is later
-pub later-is-latest : (log : StoredLog) (left lock count : ℕ) → hasLaterAcquire log left lock count ≡ ltb count (latestAcquire log left lock)
+pub later-is-latest : (log : StoredLog) (left lock count : ℕ) →
+    hasLaterAcquire log left lock count ≡ ltb count (latestAcquire log left lock)
 unfolding hasLaterAcquire someBelow latestAcquire
 later-is-latest log zero lock count = sym (le-ltb count 0 (omega arith))
 later-is-latest log (suc left) lock count =
     by-entry (eqb (entryKind log left) 2) (eqb (entryPlace log left) lock) (entryValue log left) (later-is-latest log left lock count)
   where
-    by-entry : (acquire same : Bool) (value : ℕ) → hasLaterAcquire log left lock count ≡ ltb count (latestAcquire log left lock) → (acquire && same && ltb count value || hasLaterAcquire log left lock count) ≡ ltb count (cond (acquire && same && ltb (latestAcquire log left lock) value) value (latestAcquire log left lock))
+    by-entry : (acquire same : Bool) (value : ℕ) →
+        hasLaterAcquire log left lock count ≡ ltb count (latestAcquire log left lock) →
+        (acquire && same && ltb count value || hasLaterAcquire log left lock count) ≡
+        ltb count (cond (acquire && same && ltb (latestAcquire log left lock) value) value (latestAcquire log left lock))
     by-entry true true value earlier = rw earlier (larger count value (latestAcquire log left lock))
     by-entry true false value earlier = earlier
     by-entry false same value earlier = earlier
 
 -- an entry that is no ACQUIRE of the lock is none of its latest
-latest-passes : (log : StoredLog) (left lock : ℕ) → (entryKind log left ≡ 2 → entryPlace log left ≡ lock → ⊥) → latestAcquire log (suc left) lock ≡ latestAcquire log left lock
+latest-passes : (log : StoredLog) (left lock : ℕ) → (entryKind log left ≡ 2 → entryPlace log left ≡ lock → ⊥) →
+    latestAcquire log (suc left) lock ≡ latestAcquire log left lock
 unfolding latestAcquire
 latest-passes log left lock other =
     by-cases (ℕ-discrete (entryKind log left) 2)
@@ -69,7 +75,8 @@ module _ (count : SyncCount) (entry : Entry) where
   later-other other = rw (ne-eqb (entry .kind) 2 other)
 
 -- the other locks have no ACQUIRE in an entry of this one
-latest-others : (log : StoredLog) (index lock : ℕ) → Good (entryIn log index) → lock < lockCount → (lock ≡ lockOf (entryPlace log index) → ⊥) →
+latest-others : (log : StoredLog) (index lock : ℕ) → Good (entryIn log index) → lock < lockCount →
+    (lock ≡ lockOf (entryPlace log index) → ⊥) →
     latestAcquire log (suc index) lock ≡ latestAcquire log index lock
 latest-others log index lock good inside other =
     latest-passes log index lock
@@ -189,8 +196,10 @@ module _ {image : List ℕ} {seen : ℕ → ℕ} {latest : List Latest} {earlier
         (λ another. rw (others t t-inside another) (old .few t t-inside))
 
   -- one entry more is remembered
-  module _ (thread : ℕ) (inside : thread < threadCount) (more : seen thread < slotCount) (good : Good (entryIn (logIn image thread) (seen thread)))
-      (next : ℕ → ℕ) (one-more : next thread ≡ suc (seen thread)) (others : (other : ℕ) → other < threadCount → (other ≡ thread → ⊥) → next other ≡ seen other) where
+  module _ (thread : ℕ) (inside : thread < threadCount) (more : seen thread < slotCount)
+      (good : Good (entryIn (logIn image thread) (seen thread)))
+      (next : ℕ → ℕ) (one-more : next thread ≡ suc (seen thread))
+      (others : (other : ℕ) → other < threadCount → (other ≡ thread → ⊥) → next other ≡ seen other) where
     abbrev entry : Entry
     entry = entryIn (logIn image thread) (seen thread)
 
@@ -226,10 +235,12 @@ module _ {image : List ℕ} {seen : ℕ → ℕ} {latest : List Latest} {earlier
         let same-thread : t ≡ thread = omega (arith, few-here, more, same) in
         let same-index : index ≡ seen thread = omega (arith, few-here, more, same) in
         rw (same-thread, same-index)
-        (ap (λ (c : SyncCount). c .0) (getD-set-same earlier (thread * slotCount + seen thread) count (syncCount 0) (omega (arith, old .places, more, inside)))
+        (ap (λ (c : SyncCount). c .0)
+        (getD-set-same earlier (thread * slotCount + seen thread) count (syncCount 0) (omega (arith, old .places, more, inside)))
         ∙ old .latestIs thread lock inside locked))
         (λ differs.
-        ap (λ (c : SyncCount). c .0) (getD-set-other earlier (thread * slotCount + seen thread) (t * slotCount + index) count (syncCount 0) differs)
+        ap (λ (c : SyncCount). c .0)
+        (getD-set-other earlier (thread * slotCount + seen thread) (t * slotCount + index) count (syncCount 0) differs)
         ∙ old .earlierIs t index t-inside (seen-below t index t-inside below differs))
       where
         index-few : (t index : ℕ) → t < threadCount → index < next t → index < slotCount
@@ -252,13 +263,16 @@ module _ {image : List ℕ} {seen : ℕ → ℕ} {latest : List Latest} {earlier
       locks = length-set latest lock _ ∙ old .locks;
       places = length-set earlier (thread * slotCount + seen thread) count ∙ old .places;
       few = few-stay thread lock inside locked (laterOf count entry) next (omega (arith, one-more, more)) others count-is elsewhere-same;
-      latestIs = latest-stays thread lock inside locked (laterOf count entry) next (omega (arith, one-more, more)) others count-is elsewhere-same;
+      latestIs =
+          latest-stays thread lock inside locked (laterOf count entry) next (omega (arith, one-more, more)) others count-is elsewhere-same;
       earlierIs = earlier-more;
     }
 
   -- the last entry of a thread is taken, and forgotten
-  module _ (thread : ℕ) (inside : thread < threadCount) (has : 1 ≤ seen thread) (good : Good (entryIn (logIn image thread) (seen thread - 1)))
-      (next : ℕ → ℕ) (one-fewer : next thread ≡ seen thread - 1) (others : (other : ℕ) → other < threadCount → (other ≡ thread → ⊥) → next other ≡ seen other) where
+  module _ (thread : ℕ) (inside : thread < threadCount) (has : 1 ≤ seen thread)
+      (good : Good (entryIn (logIn image thread) (seen thread - 1)))
+      (next : ℕ → ℕ) (one-fewer : next thread ≡ seen thread - 1)
+      (others : (other : ℕ) → other < threadCount → (other ≡ thread → ⊥) → next other ≡ seen other) where
     abbrev lastLock : ℕ
     lastLock = lockOf (entryPlace (logIn image thread) (seen thread - 1))
 
@@ -297,7 +311,8 @@ module _ {image : List ℕ} {seen : ℕ → ℕ} {latest : List Latest} {earlier
     }
 
   -- the same entries by another name
-  pub remember-same : (next : ℕ → ℕ) → ((thread : ℕ) → thread < threadCount → next thread ≡ seen thread) → Remembers image next latest earlier
+  pub remember-same : (next : ℕ → ℕ) → ((thread : ℕ) → thread < threadCount → next thread ≡ seen thread) →
+      Remembers image next latest earlier
   remember-same next same = record {
     locks = old .locks;
     places = old .places;

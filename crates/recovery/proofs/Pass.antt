@@ -16,13 +16,14 @@ use Rattle.log.specs.Stretch.{holds, presentOf}
 use Rattle.log.proofs.Presence.{present-at-most}
 use Rattle.undo.specs.Events.{syncCount}
 use Rattle.undo.specs.declared.SyncCount.{SyncCount}
-use Rattle.recovery.specs.Undo.{StoredLog, presentIn, leftOf, undoStart}
-use Rattle.recovery.specs.Reading.{logIn, entryIn, Good}
-use Rattle.recovery.specs.Latest.{latestAcquire, lockOf, rowWith, rowOf, countOf, withCount, laterOf, Readable, Remembers}
-use Rattle.recovery.specs.declared.Entry.{Entry}
+use Rattle.image.specs.Stored.{StoredLog, presentIn, presentEntries}
+use Rattle.image.specs.Reading.{logIn, entryIn, Good, Readable}
+use Rattle.image.specs.declared.Entry.{Entry}
+use Rattle.image.proofs.LogsRead.{count-present}
+use Rattle.image.proofs.GoodEntries.{present-good}
+use Rattle.recovery.specs.Undo.{leftOf}
+use Rattle.recovery.specs.Latest.{latestAcquire, lockOf, rowWith, rowOf, countOf, withCount, laterOf, Remembers}
 use Rattle.recovery.specs.declared.Latest.{Latest}
-use Rattle.recovery.proofs.LogsRead.{start-left}
-use Rattle.recovery.proofs.GoodEntries.{present-good}
 use Rattle.recovery.proofs.LatestLaws.{remember-more, remember-same}
 
 -- of so many places, how many of a thread's have an entry
@@ -35,15 +36,17 @@ present-few : (log : StoredLog) → presentIn log ≤ slotCount
 unfolding presentOf
 present-few log = present-at-most (holds (log .stretch)) (log .head) slotCount
 
-seen-some : (left : List ℕ) (place thread : ℕ) → place - thread * slotCount < leftOf left thread → seenOf left place thread ≡ place - thread * slotCount
+seen-some : (left : List ℕ) (place thread : ℕ) → place - thread * slotCount < leftOf left thread →
+    seenOf left place thread ≡ place - thread * slotCount
 seen-some left place thread some = rw (lt-ltb (place - thread * slotCount) (leftOf left thread) some)
 
-seen-all : (left : List ℕ) (place thread : ℕ) → leftOf left thread ≤ place - thread * slotCount → seenOf left place thread ≡ leftOf left thread
+seen-all : (left : List ℕ) (place thread : ℕ) → leftOf left thread ≤ place - thread * slotCount →
+    seenOf left place thread ≡ leftOf left thread
 seen-all left place thread all = rw (le-ltb (place - thread * slotCount) (leftOf left thread) all)
 
-module _ {image left : List ℕ} (readable : Readable image) (left-is : left ≡ undoStart image .left) where
+module _ {image left : List ℕ} (readable : Readable image) (left-is : left ≡ presentEntries image) where
   left-present : (thread : ℕ) → thread < threadCount → leftOf left thread ≡ presentIn (logIn image thread)
-  left-present thread inside = ap (λ (counts : List ℕ). leftOf counts thread) left-is ∙ start-left image thread inside
+  left-present thread inside = ap (λ (counts : List ℕ). leftOf counts thread) left-is ∙ count-present image thread inside
 
   left-few : (thread : ℕ) → thread < threadCount → leftOf left thread ≤ slotCount
   left-few thread inside = omega (arith, left-present thread inside, present-few (logIn image thread))
@@ -122,13 +125,15 @@ module _ {image left : List ℕ} (readable : Readable image) (left-is : left ≡
           (set earlier place (countOf row thread))
       pass-on {latest} {earlier} old entry entry-is =
           let at : thread * slotCount + seenOf left place thread ≡ place = omega (arith, seen-here) in
-          let is : entry ≡ entryIn (logIn image thread) (seenOf left place thread) = entry-is ∙ ap (entryIn (logIn image thread)) (sym seen-here) in
+          let is : entry ≡ entryIn (logIn image thread) (seenOf left place thread) =
+          entry-is ∙ ap (entryIn (logIn image thread)) (sym seen-here) in
           let more = remember-more old thread thread-inside (omega (arith, seen-here)) (rw seen-here entry-good)
           (seenOf left (place + 1)) (seen-next ∙ omega (arith, seen-here)) others-seen in
           rw is (rw at at more)
 
     -- a place without one: no later place of the thread has one
-    pub pass-over : {latest : List Latest} {earlier : List SyncCount} → leftOf left thread ≤ index → Remembers image (seenOf left place) latest earlier →
+    pub pass-over : {latest : List Latest} {earlier : List SyncCount} → leftOf left thread ≤ index →
+        Remembers image (seenOf left place) latest earlier →
         Remembers image (seenOf left ((thread + 1) * slotCount)) latest earlier
     pass-over none old = remember-same old (seenOf left ((thread + 1) * slotCount)) later-same
       where
@@ -150,7 +155,8 @@ module _ {image left : List ℕ} (readable : Readable image) (left-is : left ≡
             (λ another. seen-all left place other (omega (arith, few, before, another)))))
 
   -- past the last place all present entries are remembered
-  pub pass-ends : {place : ℕ} {latest : List Latest} {earlier : List SyncCount} → threadCount * slotCount ≤ place → Remembers image (seenOf left place) latest earlier →
+  pub pass-ends : {place : ℕ} {latest : List Latest} {earlier : List SyncCount} → threadCount * slotCount ≤ place →
+      Remembers image (seenOf left place) latest earlier →
       Remembers image (leftOf left) latest earlier
   pass-ends {place} past old =
       remember-same old (leftOf left)

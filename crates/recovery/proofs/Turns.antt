@@ -13,18 +13,22 @@ use borrow.Author.Tests.{eq-eqb, ne-eqb}
 use Rattle.sizes.specs.Sizes.{threadCount}
 use Rattle.log.specs.Stretch.{headsAt}
 use Rattle.undo.specs.declared.SyncCount.{SyncCount}
-use Rattle.recovery.specs.Undo.{storedLogs, presentIn, Undo, leftOf, mayTake, lowestFrom, takeLast, takeMany, undoStart, undone}
-use Rattle.recovery.specs.Reading.{logIn, entryIn, lastOf, Good}
-use Rattle.recovery.specs.Latest.{lockOf, rowOf, withCount, earlierOf, mayTakeLast, Readable, Remembers, Tracked}
-use Rattle.recovery.specs.declared.Entry.{Entry}
+use Rattle.image.specs.Stored.{storedLogs, presentIn, presentEntries}
+use Rattle.image.specs.Reading.{logIn, entryIn, Good, Readable}
+use Rattle.image.specs.declared.Entry.{Entry}
+use Rattle.image.proofs.LogsRead.{counts-long, count-present}
+use Rattle.image.proofs.GoodEntries.{present-good, good-known, good-release}
+use Rattle.recovery.specs.Undo.{Undo, leftOf, mayTake, lowestFrom, takeLast, takeMany, undoStart, undone}
+use Rattle.recovery.specs.Reading.{lastOf}
+use Rattle.recovery.specs.Latest.{lockOf, rowOf, withCount, earlierOf, mayTakeLast, Remembers, Tracked}
 use Rattle.recovery.specs.declared.Latest.{Latest}
-use Rattle.recovery.proofs.LogsRead.{start-long, start-left}
-use Rattle.recovery.proofs.GoodEntries.{present-good, good-known, good-release}
 use Rattle.recovery.proofs.LatestLaws.{waits-for-latest, remember-fewer}
-use Rattle.recovery.proofs.UndoLaws.{may-take-nothing, may-take-other, may-take-release, may-take-has, lowest-here, lowest-later, lowest-nowhere, take-nothing, take-one}
+use Rattle.recovery.proofs.UndoLaws.{may-take-nothing, may-take-other, may-take-release, may-take-has, lowest-here, lowest-later}
+use Rattle.recovery.proofs.UndoLaws.{lowest-nowhere, take-nothing, take-one}
 
 -- the last entry that a thread has left may be lastTaken, by what is remembered, just when the undo order says so
-module _ {image left : List ℕ} {latest : List Latest} {earlier : List SyncCount} (at : Tracked image left latest earlier) (thread : ℕ) (inside : thread < threadCount) where
+module _ {image left : List ℕ} {latest : List Latest} {earlier : List SyncCount}
+    (at : Tracked image left latest earlier) (thread : ℕ) (inside : thread < threadCount) where
   abbrev last : Entry
   last = lastOf (logIn image thread) (leftOf left thread)
 
@@ -75,23 +79,25 @@ pub record Midway (image left : List ℕ) (latest : List Latest) (earlier : List
   pub leads : takeMany (256 - turn) (storedLogs image) (state left cells) ≡ undone image
   pub passed : lowestFrom (storedLogs image) left 0 threadCount ≡ lowestFrom (storedLogs image) left thread (threadCount - thread)
 
-pub turns-start : {image left cells : List ℕ} {latest : List Latest} {earlier : List SyncCount} → Readable image → left ≡ undoStart image .left →
+pub turns-start : {image left cells : List ℕ} {latest : List Latest} {earlier : List SyncCount} → Readable image →
+    left ≡ presentEntries image →
     Remembers image (leftOf left) latest earlier → cells ≡ take headsAt image → Midway image left latest earlier cells 0 0
 unfolding undone undoStart
 turns-start {image} {left} {cells} readable left-is remembers cells-is = record {
   over = omega arith;
   inside = omega arith;
-  threads = ap length left-is ∙ start-long image;
+  threads = ap length left-is ∙ counts-long image;
   tracked = record {
     readable = readable;
-    within = λ thread inside. omega (arith, ap (λ (counts : List ℕ). leftOf counts thread) left-is ∙ start-left image thread inside);
+    within = λ thread inside. omega (arith, ap (λ (counts : List ℕ). leftOf counts thread) left-is ∙ count-present image thread inside);
     remembers = remembers;
   };
   leads = ap (takeMany 256 (storedLogs image)) (ap₂ state left-is cells-is);
   passed = refl;
 }
 
-module _ {image left cells : List ℕ} {latest : List Latest} {earlier : List SyncCount} {turn thread : ℕ} (at : Midway image left latest earlier cells turn thread) where
+module _ {image left cells : List ℕ} {latest : List Latest} {earlier : List SyncCount} {turn thread : ℕ}
+    (at : Midway image left latest earlier cells turn thread) where
   -- all turns are over
   pub turns-end : 256 ≤ turn → state left cells ≡ undone image
   unfolding takeMany
@@ -101,7 +107,8 @@ module _ {image left cells : List ℕ} {latest : List Latest} {earlier : List Sy
 
   -- this thread's last entry may not be taken
   module _ (mayNot : mayTake (storedLogs image) left thread ≡ false) where
-    later-ones : lowestFrom (storedLogs image) left 0 threadCount ≡ lowestFrom (storedLogs image) left (thread + 1) (threadCount - (thread + 1))
+    later-ones : lowestFrom (storedLogs image) left 0 threadCount ≡
+        lowestFrom (storedLogs image) left (thread + 1) (threadCount - (thread + 1))
     later-ones = at .passed ∙ lowest-later (storedLogs image) left thread threadCount (at .inside) mayNot
 
     -- nor any other's
@@ -175,7 +182,9 @@ module _ {image left cells : List ℕ} {latest : List Latest} {earlier : List Sy
       tracked = record {
         readable = at .tracked .readable;
         within = fewer-within;
-        remembers = remember-fewer (at .tracked .remembers) thread (at .inside) turn-has turn-good (leftOf fewer) one-fewer (λ other below. others-stay other);
+        remembers =
+            remember-fewer (at .tracked .remembers) thread (at .inside) turn-has turn-good (leftOf fewer) one-fewer
+            (λ other below. others-stay other);
       };
       leads =
           sym

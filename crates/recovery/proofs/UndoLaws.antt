@@ -9,7 +9,9 @@ use native.Mathlib.Omega.{arith}
 use borrow.Author.Tests.{eq-eqb, ne-eqb}
 use Rattle.sizes.specs.Sizes.{threadCount}
 use Rattle.answer.specs.Lists.{someBelow}
-use Rattle.recovery.specs.Undo.{StoredLog, storedLog, entryKind, entryPlace, entryValue, Undo, leftOf, hasLaterAcquire, mayTakeEntry, mayTake, lowestFrom, takeLast, takeFrom, takeNext, takeMany}
+use Rattle.image.specs.Stored.{StoredLog, storedLog, entryKind, entryPlace, entryValue}
+use Rattle.recovery.specs.Undo.{Undo, leftOf, hasLaterAcquire, mayTakeEntry, mayTake, lowestFrom, takeLast, takeFrom, takeNext}
+use Rattle.recovery.specs.Undo.{takeMany}
 
 module _ (logs : List StoredLog) (left : List ℕ) where
   -- some log has a later ACQUIRE of the lock left
@@ -31,7 +33,8 @@ module _ (logs : List StoredLog) (left : List ℕ) where
       may-take-other other =
           rw (ne-eqb (leftOf left thread) 0 has, ne-eqb (entryKind (storedLog logs thread) last) 3 other)
 
-      pub may-take-release : entryKind (storedLog logs thread) last ≡ 3 → mayTake logs left thread ≡ not (waitsFor (entryPlace (storedLog logs thread) last) (entryValue (storedLog logs thread) last))
+      pub may-take-release : entryKind (storedLog logs thread) last ≡ 3 →
+          mayTake logs left thread ≡ not (waitsFor (entryPlace (storedLog logs thread) last) (entryValue (storedLog logs thread) last))
       unfolding mayTake mayTakeEntry
       may-take-release release =
           rw (ne-eqb (leftOf left thread) 0 has, eq-eqb (entryKind (storedLog logs thread) last) 3 release)
@@ -49,7 +52,8 @@ module _ (logs : List StoredLog) (left : List ℕ) where
     unfolding lowestFrom
     lowest-here may = rw (one-more, may)
 
-    pub lowest-later : mayTake logs left thread ≡ false → lowestFrom logs left thread (n - thread) ≡ lowestFrom logs left (thread + 1) (n - (thread + 1))
+    pub lowest-later : mayTake logs left thread ≡ false →
+        lowestFrom logs left thread (n - thread) ≡ lowestFrom logs left (thread + 1) (n - (thread + 1))
     unfolding lowestFrom
     lowest-later mayNot = rw (one-more, mayNot, add-one thread)
 
@@ -58,13 +62,17 @@ module _ (logs : List StoredLog) (left : List ℕ) where
   lowest-nowhere thread n past = let no-more : n - thread ≡ 0 = omega arith in rw no-more
 
   -- the lowest thread found is one of them, and its last entry may be taken
-  pub lowest-may : (thread count found : ℕ) → lowestFrom logs left thread count ≡ some found → (found < thread + count) × (mayTake logs left found ≡ true)
+  pub lowest-may : (thread count found : ℕ) → lowestFrom logs left thread count ≡ some found →
+      (found < thread + count) × (mayTake logs left found ≡ true)
   unfolding lowestFrom
   lowest-may thread zero found isFound = absurd (Option·none-ne-some found isFound)
   lowest-may thread (suc count) found isFound =
       by-first (mayTake logs left thread) refl isFound (lowest-may (suc thread) count found)
     where
-      by-first : (first : Bool) → mayTake logs left thread ≡ first → cond first (some thread) (lowestFrom logs left (suc thread) count) ≡ some found → (lowestFrom logs left (suc thread) count ≡ some found → (found < suc thread + count) × (mayTake logs left found ≡ true)) → (found < thread + suc count) × (mayTake logs left found ≡ true)
+      by-first : (first : Bool) → mayTake logs left thread ≡ first →
+          cond first (some thread) (lowestFrom logs left (suc thread) count) ≡ some found →
+          (lowestFrom logs left (suc thread) count ≡ some found → (found < suc thread + count) × (mayTake logs left found ≡ true)) →
+          (found < thread + suc count) × (mayTake logs left found ≡ true)
       by-first true may isFirst later =
           let same = Option·some-injective thread found isFirst in
           (omega arith, rw (← same) may)
@@ -80,7 +88,8 @@ module _ (logs : List StoredLog) (undo : Undo) where
   take-nothing nobody (suc count) = rw nobody (take-nothing nobody count)
 
   -- one turn of n
-  pub take-one : (thread turn n : ℕ) → turn < n → lowestFrom logs (undo .left) 0 threadCount ≡ some thread → takeMany (n - turn) logs undo ≡ takeMany (n - (turn + 1)) logs (takeLast logs undo thread)
+  pub take-one : (thread turn n : ℕ) → turn < n → lowestFrom logs (undo .left) 0 threadCount ≡ some thread →
+      takeMany (n - turn) logs undo ≡ takeMany (n - (turn + 1)) logs (takeLast logs undo thread)
   unfolding takeMany takeNext
   take-one thread turn n more lowest =
       let one-more : n - turn ≡ suc (n - (turn + 1)) = omega arith in

@@ -9,13 +9,12 @@ use lib.Dec.{eqb, ltb}
 use Rattle.sizes.specs.Sizes.{threadCount, lockCount}
 use Rattle.answer.specs.Lists.{someBelow}
 use Rattle.ring.specs.Ring.{slotCount}
-use Rattle.log.specs.Stretch.{imageWords}
 use Rattle.undo.specs.Events.{syncCount}
 use Rattle.undo.specs.declared.SyncCount.{SyncCount}
-use Rattle.recovery.specs.Undo.{StoredLog, entryKind, entryPlace, entryValue, leftOf, presentIn}
-use Rattle.recovery.specs.Recover.{isBadHead, hasBadEntry}
-use Rattle.recovery.specs.Reading.{logIn}
-use Rattle.recovery.specs.declared.Entry.{Entry}
+use Rattle.image.specs.Stored.{StoredLog, presentIn, entryKind, entryPlace, entryValue}
+use Rattle.image.specs.Reading.{logIn, Readable}
+use Rattle.image.specs.declared.Entry.{Entry}
+use Rattle.recovery.specs.Undo.{leftOf}
 use Rattle.recovery.specs.declared.Latest.{Latest}
 
 -- the largest count of an ACQUIRE of the lock among so many entries of a log, and 0 where there is none
@@ -66,16 +65,6 @@ unfoldable pub mayTakeLast : Entry → Latest → Bool
 mayTakeLast last row =
     let waits = someBelow threadCount (λ thread. ltb (last .value) (countOf row thread .0)) in
     cond (eqb (last .kind) 0) false (cond (eqb (last .kind) 3) (not waits) true)
-
--- an image that test 21 lets pass and test 22 too
-pub record Headed (image : List ℕ) : Type 0 where
-  pub words : length image ≡ imageWords
-  pub heads : (thread : ℕ) → thread < threadCount → isBadHead (logIn image thread) ≡ false
-
--- an image that test 23 lets pass too
-pub record Readable (image : List ℕ) : Type 0 where
-  pub headed : Headed image
-  pub good : (thread : ℕ) → thread < threadCount → hasBadEntry (logIn image thread) ≡ false
 
 -- of so many entries of each thread's log, the latest ACQUIREs are remembered, and before each entry those before it
 pub record Remembers (image : List ℕ) (seen : ℕ → ℕ) (latest : List Latest) (earlier : List SyncCount) : Type 0 where

@@ -1,5 +1,5 @@
--- Recovery of an image, over the log's definitions alone: the tests of an image, the undo order, and the outcome; and what the code
--- reads and remembers on the way.
+-- Recovery of an image, over the image's definitions: the undo order, and the tests and the outcome; and what the code takes and
+-- remembers on the way.
 pub mod Undo
 pub mod Recover
 pub mod Reading

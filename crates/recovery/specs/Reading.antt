@@ -1,32 +1,12 @@
--- What the code reads of an image and hands on, in the words of the undo order.
+-- What the code takes of an image and hands on, in the words of the undo order.
 use Prim.Native.Nat.{ℕ, _-_}
-use mathlib.Core.Path.{_≡_}
-use mathlib.Core.Bool.{Bool, false, cond}
-use mathlib.Core.List.{List}
+use mathlib.Core.Bool.{cond}
 use lib.Dec.{eqb}
-use Rattle.recovery.specs.Undo.{StoredLog, storedLogs, storedLog, entryKind, entryPlace, entryValue, Undo}
-use Rattle.recovery.specs.Recover.{isBadEntry}
-use Rattle.recovery.specs.declared.Entry.{Entry}
+use Rattle.image.specs.Stored.{StoredLog}
+use Rattle.image.specs.Reading.{entryIn}
+use Rattle.image.specs.declared.Entry.{Entry}
+use Rattle.recovery.specs.Undo.{Undo}
 use Rattle.recovery.specs.declared.Undone.{Undone}
-
--- the log with this stretch and this head
-abbrev pub logOf : List ℕ → ℕ → StoredLog
-logOf stretch head = record { head = head; stretch = stretch }
-
--- a thread's log in an image
-abbrev pub logIn : List ℕ → ℕ → StoredLog
-logIn image thread = storedLog (storedLogs image) thread
-
--- what the present entry says that has so many present ones before it
-abbrev pub entryIn : StoredLog → ℕ → Entry
-entryIn log index = record { kind = entryKind log index; place = entryPlace log index; value = entryValue log index }
-
--- an entry that test 23 refuses, and one that it lets pass
-abbrev pub isBad : Entry → Bool
-isBad entry = isBadEntry (entry .kind) (entry .place) (entry .value)
-
-abbrev pub Good : Entry → Type 0
-Good entry = isBad entry ≡ false
 
 -- an entry that says nothing
 abbrev pub noEntry : Entry

@@ -1,41 +1,15 @@
 -- The undo order: "repeatedly takes the last remaining entry of the lowest thread whose last one may be taken".
 -- It is stated over the four logs of an image and how many present entries each has left.
-use Prim.Native.Nat.{ℕ, zero, suc, _+_, _-_}
+use Prim.Native.Nat.{ℕ, zero, suc, _-_}
 use mathlib.Core.Bool.{Bool, true, false, cond, not, _&&_}
-use mathlib.Core.List.{List, [], map}
+use mathlib.Core.List.{List}
 use mathlib.Core.Option.{Option, none, some}
 use lib.ListN.{getD, set, take}
 use lib.Dec.{eqb, ltb}
 use Rattle.sizes.specs.Sizes.{threadCount}
-use Rattle.answer.specs.Lists.{tab, someBelow}
-use Rattle.log.specs.Stretch.{headsAt, stretchOf, kindAt, placeAt, valueAt, presentOf}
-
--- one thread's log in an image: its head and its stretch
-pub record StoredLog : Type 0 where
-  pub head : ℕ
-  pub stretch : List ℕ
-
--- the four logs of an image
-unfoldable pub storedLogs : List ℕ → List StoredLog
-storedLogs image =
-    tab threadCount (λ thread. record { head = getD image (headsAt + thread) 0; stretch = stretchOf image thread })
-
-abbrev pub storedLog : List StoredLog → ℕ → StoredLog
-storedLog logs thread = getD logs thread (record { head = 0; stretch = [] })
-
--- how many entries of a log are present
-abbrev pub presentIn : StoredLog → ℕ
-presentIn log = presentOf (log .stretch) (log .head)
-
--- the kind, place and value of the present entry that has so many present ones before it
-abbrev pub entryKind : StoredLog → ℕ → ℕ
-entryKind log index = kindAt (log .stretch) (log .head + index)
-
-abbrev pub entryPlace : StoredLog → ℕ → ℕ
-entryPlace log index = placeAt (log .stretch) (log .head + index)
-
-abbrev pub entryValue : StoredLog → ℕ → ℕ
-entryValue log index = valueAt (log .stretch) (log .head + index)
+use Rattle.answer.specs.Lists.{someBelow}
+use Rattle.log.specs.Stretch.{headsAt}
+use Rattle.image.specs.Stored.{StoredLog, storedLogs, storedLog, presentEntries, entryKind, entryPlace, entryValue}
 
 -- how many entries each thread has left to take, and the cells so far
 pub record Undo : Type 0 where
@@ -99,7 +73,7 @@ takeMany (suc count) logs undo = takeMany count logs (takeNext logs undo)
 -- "Recovery copies the kept cells", and every present entry is left
 unfoldable pub undoStart : List ℕ → Undo
 undoStart image = record {
-  left = map presentIn (storedLogs image);
+  left = presentEntries image;
   cells = take headsAt image;
 }
 

@@ -1,22 +1,20 @@
-// Recovery: what an image's cells were before the regions that were not pruned. Stands on the log's stated behaviour.
+// Recovery: what an image's cells were before the regions that were not pruned. Stands on how an image is tested and read.
 ghost use mathlib.Core.Path.{_≡_};
-ghost use mathlib.Core.Bool.{cond, not, _||_};
-ghost use mathlib.Core.List.{[]};
-ghost use Prim.Native.Nat.{_+_, _*_, _<_, _≤_};
+ghost use mathlib.Core.Bool.{cond};
+ghost use Prim.Native.Nat.{_<_, _≤_};
 ghost use lib.ListN.{length, set, take};
 ghost use lib.Dec.{eqb, ltb};
 ghost use Rattle.sizes.specs.Sizes.{threadCount};
 ghost use Rattle.answer.specs.Lists.{someBelow};
-ghost use Rattle.ring.specs.Ring.{lsn};
-ghost use Rattle.log.specs.Stretch.{imageWords, headsAt};
-ghost use Rattle.recovery.specs.Undo.{leftOf, undoStart, undone};
-ghost use Rattle.recovery.specs.Recover.{lastSyncCount, isBadHead, isBadEntry, hasBadEntry, recoverOf};
-ghost use Rattle.recovery.specs.Reading.{logOf, logIn, entryIn, lastOf, isBad, Good, undoOf};
-ghost use Rattle.recovery.specs.Latest.{lockOf, countOf, withCount, laterOf, mayTakeLast, Headed, Readable, Remembers};
+ghost use Rattle.log.specs.Stretch.{headsAt};
+ghost use Rattle.image.specs.Stored.{presentEntries};
+ghost use Rattle.image.specs.Reading.{logIn, Good, Headed, Readable};
+ghost use Rattle.recovery.specs.Undo.{leftOf, undone};
+ghost use Rattle.recovery.specs.Recover.{recoverOf};
+ghost use Rattle.recovery.specs.Reading.{lastOf, undoOf};
+ghost use Rattle.recovery.specs.Latest.{lockOf, countOf, withCount, laterOf, mayTakeLast, Remembers};
 use answer::Answer;
-use log::HEADS_AT;
-use log::IMAGE_WORDS;
-use ring::Lsn;
+use image::Entry;
 use sizes::CELLS;
 use sizes::LOCKS;
 use sizes::SLOTS;
@@ -26,13 +24,6 @@ use undo::SyncCount;
 
 // The entries that an image has at most.
 const ENTRIES: usize = THREADS * SLOTS;
-
-// What an entry of an image says: document 01's kind, place and value.
-struct Entry {
-    kind: u64,
-    place: u64,
-    value: u64,
-}
 
 // Of one lock, the largest count among each thread's ACQUIREs that are left, and 0 where there is none.
 struct Latest {
@@ -52,143 +43,6 @@ struct Remembered {
 struct Undone {
     left: [usize; THREADS],
     cells: [u64; CELLS],
-}
-
-// The head of a thread's log, as the image has it: any word.
-fn head_word(image: &[u64], thread: usize) -> u64
-    requires { ⌜ (length (now image) ≡ imageWords) × (thread < threadCount) ⌝ }
-    ensures { λ r. ⌜ r ≡ logIn (now (image .entry)) thread .head ⌝ }
-{
-    image[HEADS_AT + thread]
-}
-
-// The LSN of a thread's head, which test 22 let pass.
-fn head_of(image: &[u64], thread: usize) -> Lsn
-    requires { ⌜ Headed (now image) × (thread < threadCount) ⌝ }
-    ensures { λ r. ⌜ r ≡ lsn (logIn (now (image .entry)) thread .head) ⌝ }
-{
-    Lsn(head_word(image, thread) as u32)
-}
-
-// What the entry says that has so many entries before it. A slot is an LSN mod 64, so 64s may be left out, and the sum can't wrap.
-fn read_entry(stretch: &[u64], head: Lsn, index: usize) -> Entry
-    ensures { λ r. ⌜ r ≡ entryIn (logOf (now (stretch .entry)) (head .0)) index ⌝ }
-{
-    let number = head.0 as u64 + index as u64 % words::SLOTS;
-    Entry {
-        kind: log::word(stretch, number, 0),
-        place: log::word(stretch, number, 1),
-        value: log::word(stretch, number, 2),
-    }
-}
-
-// What a thread's entry says that has so many entries before it.
-fn entry_of(image: &[u64], thread: usize, index: usize) -> Entry
-    requires { ⌜ Headed (now image) × (thread < threadCount) ⌝ }
-    ensures { λ r. ⌜ r ≡ entryIn (logIn (now (image .entry)) thread) index ⌝ }
-{
-    read_entry(log::stretch(image, thread), head_of(image, thread), index)
-}
-
-// A head outside 1 to 1,000,001.
-fn is_bad_head(head: u64) -> bool
-    ensures { λ r. ⌜ r ≡ isBadHead (logOf [] head) ⌝ }
-{
-    if head == 0 {
-        return true;
-    }
-    words::LAST_HEAD < head
-}
-
-// Some thread's head is bad.
-fn has_bad_heads(image: &[u64]) -> bool
-    requires { ⌜ length (now image) ≡ imageWords ⌝ }
-    ensures { λ r. ⌜ r ≡ someBelow threadCount (λ thread. isBadHead (logIn (now (image .entry)) thread)) ⌝ }
-{
-    let mut thread = 0;
-    while thread < THREADS {
-        if is_bad_head(head_word(image, thread)) {
-            return true;
-        }
-        thread += 1;
-    }
-    false
-}
-
-// A bad lock, or a lock count over 4,000,000.
-fn is_bad_lock(lock: u64, count: u64) -> bool
-    ensures { λ r. ⌜ r ≡ (not (ltb lock 8) || ltb lastSyncCount count) ⌝ }
-{
-    if lock < words::LOCKS {
-        return words::LAST_COUNT < count;
-    }
-    true
-}
-
-// A bad kind or place, or a lock count over 4,000,000.
-fn is_bad_entry(entry: Entry) -> bool
-    ensures { λ r. ⌜ r ≡ isBadEntry (entry .kind) (entry .place) (entry .value) ⌝ }
-{
-    if entry.kind == 1 {
-        return !(entry.place < words::CELLS);
-    }
-    if entry.kind == 2 {
-        return is_bad_lock(entry.place, entry.value);
-    }
-    if entry.kind == 3 {
-        return is_bad_lock(entry.place, entry.value);
-    }
-    true
-}
-
-// Some of the first entries of the log is bad.
-fn has_bad_entry(stretch: &[u64], head: Lsn, present: usize) -> bool
-    ensures { λ r. ⌜ r ≡ someBelow present (λ index. isBad (entryIn (logOf (now (stretch .entry)) (head .0)) index)) ⌝ }
-{
-    let mut index = 0;
-    while index < present {
-        if is_bad_entry(read_entry(stretch, head, index)) {
-            return true;
-        }
-        index += 1;
-    }
-    false
-}
-
-// Some thread has a bad entry among those that are present.
-fn has_bad_entries(image: &[u64], present: [usize; THREADS]) -> bool
-    requires { ⌜ Headed (now image) × (present ≡ undoStart (now image) .left) ⌝ }
-    ensures { λ r. ⌜ r ≡ someBelow threadCount (λ thread. hasBadEntry (logIn (now (image .entry)) thread)) ⌝ }
-{
-    let mut thread = 0;
-    while thread < THREADS {
-        if has_bad_entry(
-            log::stretch(image, thread),
-            head_of(image, thread),
-            present[thread],
-        ) {
-            return true;
-        }
-        thread += 1;
-    }
-    false
-}
-
-// How many present entries each thread has.
-fn present_entries(image: &[u64]) -> [usize; THREADS]
-    requires { ⌜ Headed (now image) ⌝ }
-    ensures { λ r. ⌜ r ≡ undoStart (now (image .entry)) .left ⌝ }
-{
-    let mut left = [0; THREADS];
-    let mut thread = 0;
-    while thread < THREADS {
-        let stretch = log::stretch(image, thread);
-        let head = head_of(image, thread);
-        let present = log::present(stretch, head.0 as u64);
-        left[thread] = present;
-        thread += 1;
-    }
-    left
 }
 
 // The lock that an entry of a lock is of; some lock for an entry of a cell.
@@ -241,7 +95,7 @@ fn with_count(row: Latest, thread: usize, count: SyncCount) -> Latest
 fn later(count: SyncCount, entry: Entry) -> SyncCount
     ensures { λ r. ⌜ r ≡ laterOf count entry ⌝ }
 {
-    if entry.kind == 2 {
+    if entry.kind == undo::words::ACQUIRE_ENTRY {
         if count.0 < entry.value {
             return SyncCount(entry.value);
         }
@@ -252,7 +106,7 @@ fn later(count: SyncCount, entry: Entry) -> SyncCount
 // The one pass through each log: what is remembered of all present entries. Each thread has 64 places, and those past its last present
 // entry are left out.
 fn remember(image: &[u64], left: [usize; THREADS]) -> Remembered
-    requires { ⌜ Readable (now image) × (left ≡ undoStart (now image) .left) ⌝ }
+    requires { ⌜ Readable (now image) × (left ≡ presentEntries (now image)) ⌝ }
     ensures { λ r. ⌜ Remembers (now (image .entry)) (leftOf left) (r .latest) (r .earlier) ⌝ }
 {
     let none = SyncCount(0);
@@ -270,7 +124,7 @@ fn remember(image: &[u64], left: [usize; THREADS]) -> Remembered
         let index = place % SLOTS;
         let mut next = (thread + 1) * SLOTS;
         if index < left[thread] {
-            let entry = entry_of(image, thread, index);
+            let entry = image::entry_of(image, thread, index);
             let lock = lock_of(entry);
             let row = latest[lock];
             let count = count_of(row, thread);
@@ -295,7 +149,7 @@ fn last_of(image: &[u64], thread: usize, left: usize) -> Entry
             value: 0,
         };
     }
-    entry_of(image, thread, left - 1)
+    image::entry_of(image, thread, left - 1)
 }
 
 // Some thread's latest ACQUIRE of the row's lock has a larger count.
@@ -320,7 +174,7 @@ fn may_take(last: Entry, row: Latest) -> bool
     if last.kind == 0 {
         return false;
     }
-    if last.kind != 3 {
+    if last.kind != undo::words::RELEASE_ENTRY {
         return true;
     }
     !waits(row, SyncCount(last.value))
@@ -332,7 +186,7 @@ fn write_back(cells: &mut [u64; CELLS], taken: Entry)
     ensures { λ _.
         ⌜ now (cells .exit) ≡ cond (eqb (taken .kind) 1) (set (now (cells .entry)) (taken .place) (taken .value)) (now (cells .entry)) ⌝ }
 {
-    if taken.kind == 1 {
+    if taken.kind == undo::words::STORE_ENTRY {
         let cell = taken.place as usize;
         cells[cell] = taken.value;
     }
@@ -353,7 +207,7 @@ fn copy_cells(from: &[u64], to: &mut [u64])
 // Takes one entry after the other, each of the lowest thread whose last one may be taken, until none may: `thread` goes up from 0 past
 // those whose last entry may not. Four threads have at most 64 present entries each, so 256 turns are enough.
 fn undo(image: &[u64], present: [usize; THREADS]) -> Undone
-    requires { ⌜ Readable (now image) × (present ≡ undoStart (now image) .left) ⌝ }
+    requires { ⌜ Readable (now image) × (present ≡ presentEntries (now image)) ⌝ }
     ensures { λ r. ⌜ undoOf r ≡ undone (now (image .entry)) ⌝ }
 {
     let mut left = present;
@@ -404,18 +258,14 @@ pub fn recover(image: &[u64], cells: &mut [u64]) -> Answer
     ensures { λ r.
         ⌜ record { answer = r; buffer = now (cells .exit) } ≡ recoverOf (now (image .entry)) (now (cells .entry)) ⌝ }
 {
-    if image.len() != IMAGE_WORDS {
-        return Answer::WrongLength;
-    }
     if cells.len() != CELLS {
         return Answer::WrongLength;
     }
-    if has_bad_heads(image) {
-        return Answer::BadHead;
-    }
-    let present = present_entries(image);
-    if has_bad_entries(image, present) {
-        return Answer::BadEntry;
+    let tested = image::test(image);
+    let answer = tested.answer;
+    let present = tested.present;
+    if answer::number(answer) != 0 {
+        return answer;
     }
     let done = undo(image, present);
     let left = done.left;

@@ -89,7 +89,8 @@ pub record EndedAfter (events : ℕ → Event) (number end : ℕ) : Type 0 where
 
 -- each entry of the cell is followed by an ACQUIRE or a RELEASE
 abbrev pub NotLogged : (ℕ → Event) → ℕ → ℕ → ℕ → Type 0
-NotLogged events first end cell = (number old : ℕ) → first ≤ number → number < end → events number ≡ Store cell old → EndedAfter events number end
+NotLogged events first end cell =
+    (number old : ℕ) → first ≤ number → number < end → events number ≡ Store cell old → EndedAfter events number end
 
 ended-by : (events : ℕ → Event) (first last cell : ℕ) → (isAcquire (events last) ≡ true) ⊎ (isRelease (events last) ≡ true)
     → NotLogged events first (suc last) cell

@@ -1,21 +1,20 @@
--- The oldest region of a log: how far it goes, and, read on the entries that the thread ever made, where it ends.
+-- The oldest region of a log, read on the entries that the thread ever made: how far it goes, and where it ends.
 use Prim.Native.Nat.{ℕ, zero, suc, _+_, _-_, _<_, _≤_}
-use mathlib.Core.Bool.{Bool, true, false, cond, false≢true}
+use mathlib.Core.Bool.{Bool, true, false, cond}
 use mathlib.Core.Path.{_≡_, refl, ap, sym, _∙_, subst}
 use mathlib.Core.Logic.{_≢_, _⊎_, inl, inr, ⊎-elim, by-cases}
 use native.Mathlib.Decide.{ℕ-discrete}
 use native.Mathlib.Omega.{arith}
-use borrow.Author.Tests.{eqb-true, eqb-false, le-leb}
+use borrow.Author.Tests.{eqb-true, eqb-false}
 use lib.Dec.{eqb}
 use Rattle.undo.specs.Events.{eventOf, liveEvent}
-use Rattle.log.specs.Entries.{saidBy, liveCount, dropOf, dropToOf}
-use Rattle.undo.specs.Regions.{isAcquire, isRelease, goesOn, oldestRegion, isFinished}
+use Rattle.log.specs.Entries.{saidBy, liveCount}
+use Rattle.undo.specs.Regions.{isAcquire, isRelease, goesOn, oldestRegion}
 use Rattle.undo.specs.declared.Event.{Event}
 use Rattle.log.specs.declared.Entry.{Entry}
 use Rattle.log.specs.declared.Log.{Log}
 use Rattle.undo.proofs.EventLaws.{says}
 use Rattle.undo.proofs.UndoInvariant.{UndoHolds}
-use Rattle.undo.proofs.Walks.{seen, no-region, region-of-release, region-goes-on}
 
 -- so many of the next `count` events, from `first` on, go on a region: no ACQUIRE is among them and only the last may be a RELEASE
 record GoesOn (said : ℕ → Event) (first count size : ℕ) : Type 0 where
@@ -89,37 +88,9 @@ goes-on log index (suc count) =
     by-tests false acquires false releases later =
         goes-further (liveEvent log) index count (goesOn log (suc index) count) acquires releases later
 
--- the oldest region has an entry where one is live, and its entries are live
-region-bounds : (log : Log) (release : Bool) → isRelease (liveEvent log 0) ≡ release → (liveCount log ≡ 0 → ⊥)
-    → (1 ≤ oldestRegion log) × (oldestRegion log ≤ liveCount log)
-region-bounds log true e some = omega (arith, region-of-release log some e)
-region-bounds log false e some =
-    omega (arith, region-goes-on log some e, goes-on (seen (log .cached) (log .head)) 1 (liveCount log - 1) .most)
-
-pub region-some : (log : Log) → (liveCount log ≡ 0 → ⊥) → 1 ≤ oldestRegion log
-region-some log some = region-bounds log (isRelease (liveEvent log 0)) refl some .0
-
-pub region-live : (log : Log) → oldestRegion log ≤ liveCount log
-region-live log =
-    by-cases (ℕ-discrete (liveCount log) 0)
-    (λ none. omega (arith, no-region log none))
-    (λ some. region-bounds log (isRelease (liveEvent log 0)) refl some .1)
-
--- one that is finished has an entry
-pub finished-some : (log : Log) → isFinished log ≡ true → 1 ≤ oldestRegion log
-unfolding isFinished
-finished-some log finished =
-    by-cases (ℕ-discrete (liveCount log) 0)
-    (λ none. absurd (false≢true (rw (no-region log none, none) at finished)))
-    (region-some log)
-
--- moving the head past it is moving the head up to the LSN after it
-pub prune-region : (log : Log) → log .head .0 ≤ log .tail .next .0
-    → dropToOf log (log .head .0 + oldestRegion log) ≡ dropOf log (oldestRegion log)
-unfolding dropToOf dropOf
-prune-region log within =
-    let live = region-live log in
-    rw (le-leb (log .head .0) (log .head .0 + oldestRegion log) (omega arith), le-leb (log .head .0 + oldestRegion log) (log .tail .next .0) (omega arith))
+-- and these are at most all of them
+pub goes-most : (log : Log) (index count : ℕ) → goesOn log index count ≤ count
+goes-most log index count = goes-on log index count .most
 
 -- how far a run goes that begins at the head: an ACQUIRE can only be its first entry and a RELEASE only its last, and it goes on to the
 -- last entry, to an ACQUIRE or to a RELEASE
@@ -182,6 +153,7 @@ module _ (log : Log) (events : ℕ → Event) (inv : UndoHolds log events) where
             regionEnds = λ more.
                 ⊎-elim
                 (λ acquires. inl (sym (ap isAcquire (live-event (1 + goesOn log 1 (liveCount log - 1)) _ (omega arith) more)) ∙ acquires))
-                (λ ended. inr (sym (ap isRelease (live-event (1 + goesOn log 1 (liveCount log - 1) - 1) _ (omega arith) (omega arith))) ∙ ended .1))
+                (λ ended. inr
+                (sym (ap isRelease (live-event (1 + goesOn log 1 (liveCount log - 1) - 1) _ (omega arith) (omega arith))) ∙ ended .1))
                 (run .ends (omega arith));
           }

@@ -1,11 +1,9 @@
 // What the entries of an undo log mean: a cell's content before a store, or a lock's count; and the regions that they make.
 ghost use mathlib.Core.Path.{_≡_};
-ghost use mathlib.Core.Bool.{true, false, cond, not, _&&_};
-ghost use lib.Dec.{eqb, ltb};
 ghost use Rattle.answer.specs.Refusals.{firstRefusal};
 ghost use Rattle.log.specs.Entries.{saidBy};
-ghost use Rattle.undo.specs.Events.{payloadOf, eventOf, liveEvent, closesOf, enteredOf};
-ghost use Rattle.undo.specs.Regions.{isAcquire, isRelease, loggedOf, oldestRegion, oldestOf, isFound, isUndurableFound, storeTestsOn};
+ghost use Rattle.undo.specs.Events.{payloadOf, eventOf, closesOf, enteredOf};
+ghost use Rattle.undo.specs.Regions.{loggedOf, isFound, isUndurableFound, storeTestsOn};
 use answer::Answer;
 use log::Changed;
 use log::Entry;
@@ -14,6 +12,15 @@ use log::Payload;
 use ring::Lsn;
 use ring::Releasing;
 use ring::slot_after;
+
+pub mod words;
+
+// The kinds of entry, by document 01's numbers; `words` has them as 64-bit words.
+pub const STORE_ENTRY: u8 = 1;
+
+pub const ACQUIRE_ENTRY: u8 = 2;
+
+pub const RELEASE_ENTRY: u8 = 3;
 
 // How often a lock was released (document 01: lock count). Never added to or compared with an LSN.
 pub struct SyncCount(pub u64);
@@ -52,17 +59,17 @@ impl Event {
                 value: 0,
             },
             Event::Store { cell, old } => Payload {
-                kind: 1,
+                kind: STORE_ENTRY,
                 place: cell,
                 value: old,
             },
             Event::Acquire { lock, count } => Payload {
-                kind: 2,
+                kind: ACQUIRE_ENTRY,
                 place: lock,
                 value: count.0,
             },
             Event::Release { lock, count } => Payload {
-                kind: 3,
+                kind: RELEASE_ENTRY,
                 place: lock,
                 value: count.0,
             },
@@ -80,51 +87,27 @@ impl Event {
             Event::Release { lock, count: _ } => Releasing::Lock(lock),
         }
     }
-
-    // The entry is an ACQUIRE.
-    fn is_acquire(self) -> bool
-        ensures { λ r. ⌜ r ≡ isAcquire self ⌝ }
-    {
-        match self {
-            Event::Empty => false,
-            Event::Store { cell: _, old: _ } => false,
-            Event::Acquire { lock: _, count: _ } => true,
-            Event::Release { lock: _, count: _ } => false,
-        }
-    }
-
-    // The entry is a RELEASE.
-    fn is_release(self) -> bool
-        ensures { λ r. ⌜ r ≡ isRelease self ⌝ }
-    {
-        match self {
-            Event::Empty => false,
-            Event::Store { cell: _, old: _ } => false,
-            Event::Acquire { lock: _, count: _ } => false,
-            Event::Release { lock: _, count: _ } => true,
-        }
-    }
 }
 
 // What an entry says.
-fn event_of(entry: Entry) -> Event
+pub fn event_of(entry: Entry) -> Event
     ensures { λ r. ⌜ r ≡ eventOf (saidBy entry) ⌝ }
 {
     let place = entry.place;
     let value = entry.value;
-    if entry.kind == 1 {
+    if entry.kind == STORE_ENTRY {
         return Event::Store {
             cell: place,
             old: value,
         };
     }
-    if entry.kind == 2 {
+    if entry.kind == ACQUIRE_ENTRY {
         return Event::Acquire {
             lock: place,
             count: SyncCount(value),
         };
     }
-    if entry.kind == 3 {
+    if entry.kind == RELEASE_ENTRY {
         return Event::Release {
             lock: place,
             count: SyncCount(value),
@@ -142,16 +125,6 @@ pub fn enter(log: Log, asked: Answer, event: Event) -> Changed
         return Changed { answer: asked, log };
     }
     log.append(event.payload(), event.closes())
-}
-
-// What the live entry says that has so many live ones before it.
-pub fn live_event(log: Log, index: usize) -> Event
-    ensures { λ r. ⌜ r ≡ liveEvent log index ⌝ }
-{
-    let cached = log.cached;
-    let slot = slot_after(log.head, index);
-    let entry = cached[slot];
-    event_of(entry)
 }
 
 // Where the current region has the cell's entry.
@@ -222,72 +195,4 @@ pub fn store_answer(log: Log, cell: usize) -> Answer
         return Answer::EntryNotDurable;
     }
     Answer::Accepted(0)
-}
-
-// How many entries the oldest region has that is not pruned: 0 where no entry is live.
-fn region_size(log: Log) -> usize
-    ensures { λ r. ⌜ r ≡ oldestRegion log ⌝ }
-{
-    let head = log.head;
-    let cached = log.cached;
-    let tail = log.tail;
-    let live = tail.live_count(head) as usize;
-    if live == 0 {
-        return 0;
-    }
-    let slot = slot_after(head, 0);
-    let entry = cached[slot];
-    let event = event_of(entry);
-    if event.is_release() {
-        return 1;
-    }
-    let mut count = 1;
-    while count < live {
-        let slot = slot_after(head, count);
-        let entry = cached[slot];
-        let event = event_of(entry);
-        if event.is_acquire() {
-            return count;
-        }
-        count += 1;
-        if event.is_release() {
-            return count;
-        }
-    }
-    count
-}
-
-// A region of this size and with this last entry is finished: its RELEASE step was taken, or the next ACQUIRE is there.
-fn is_finished(size: usize, live: usize, last: Event, releasing: bool) -> bool
-    ensures { λ r. ⌜ r ≡ cond (ltb size live) true (cond (eqb size 0) false (isRelease last && not releasing)) ⌝ }
-{
-    if size < live {
-        return true;
-    }
-    if size == 0 {
-        return false;
-    }
-    if last.is_release() {
-        return !releasing;
-    }
-    false
-}
-
-// The oldest region that is not pruned.
-pub fn oldest(log: Log) -> Region
-    ensures { λ r. ⌜ r ≡ oldestOf log ⌝ }
-{
-    let size = region_size(log);
-    let first = live_event(log, 0);
-    let last_at = if 0 < size { size - 1 } else { 0 };
-    let last = live_event(log, last_at);
-    let tail = log.tail;
-    let live = tail.live_count(log.head) as usize;
-    let finished = is_finished(size, live, last, tail.is_releasing());
-    Region {
-        size,
-        first,
-        last,
-        finished,
-    }
 }

@@ -21,7 +21,8 @@ zero-beside : (answer : Answer) → OneOf refusals (tagOf declared.the-type answ
 unfolding refusals
 zero-beside answer key =
     ⊎-elim
-    (λ accepted. absurd (miss refusals 0 tt (subst (λ (other : Answer). OneOf refusals (tagOf declared.the-type other)) (accepted .is) key)))
+    (λ accepted.
+    absurd (miss refusals 0 tt (subst (λ (other : Answer). OneOf refusals (tagOf declared.the-type other)) (accepted .is) key)))
     sym
     (accepted-or-zero answer)
 

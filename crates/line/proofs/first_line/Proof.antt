@@ -14,7 +14,8 @@ find-requires : tie.Need-find-requires
 find-requires c κs = search needs
 
 slice-aggregate-read-line : tie.Need-slice-aggregate-read-line
-slice-aggregate-read-line c = sym (length-take-le (c .before .before .find .result) (c .before .before .before .before .args .input .now) (search needs))
+slice-aggregate-read-line c =
+    sym (length-take-le (c .before .before .find .result) (c .before .before .before .before .args .input .now) (search needs))
 
 read-line-requires : tie.Need-read-line-requires
 read-line-requires c κs = search needs

@@ -16,11 +16,13 @@ begins-requires c κs = search needs
 
 sub-kind-named : tie.Need-sub-kind-named
 unfolding ascii
-sub-kind-named c = long-enough (c .before .before .before .before .args .text .now) (ascii "step=") (sym (c .before .begins .ensures) ∙ c .if1 .taken)
+sub-kind-named c =
+    long-enough (c .before .before .before .before .args .text .now) (ascii "step=") (sym (c .before .begins .ensures) ∙ c .if1 .taken)
 
 part-kind-named-start : tie.Need-part-kind-named-start
 unfolding ascii
-part-kind-named-start c = long-enough (c .before .before .before .before .args .text .now) (ascii "step=") (sym (c .before .begins .ensures) ∙ c .if1 .taken)
+part-kind-named-start c =
+    long-enough (c .before .before .before .before .args .text .now) (ascii "step=") (sym (c .before .begins .ensures) ∙ c .if1 .taken)
 
 part-kind-named-end : tie.Need-part-kind-named-end
 part-kind-named-end c = search needs
@@ -32,11 +34,14 @@ returns : tie.Need-returns
 unfolding ascii
 returns c =
     let text = c .before .before .before .before .before .before .args .text .now in
-    c .kind-named .ensures ∙ sym (key-read (ascii "step=") kindNamed text (sym (c .before .before .before .begins .ensures) ∙ c .before .before .if1 .taken))
+    c .kind-named .ensures ∙
+    sym (key-read (ascii "step=") kindNamed text (sym (c .before .before .before .begins .ensures) ∙ c .before .before .if1 .taken))
 
 returns-2 : tie.Need-returns-2
 unfolding ascii
-returns-2 c = sym (no-key (ascii "step=") kindNamed (c .before .before .before .before .args .text .now) (sym (c .before .begins .ensures) ∙ c .if1 .left))
+returns-2 c =
+    sym (no-key (ascii "step=") kindNamed (c .before .before .before .before .args .text .now)
+    (sym (c .before .begins .ensures) ∙ c .if1 .left))
 
 pub kind-field-spec : {M : Type 1} → statement M
 kind-field-spec =

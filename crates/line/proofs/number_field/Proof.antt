@@ -29,7 +29,9 @@ number-in-requires c κs = search needs
 returns : tie.Need-returns
 returns c =
     let args = c .before .before .before .before .before .before .args in
-    c .number-in .ensures ∙ sym (key-read (args .key .now) numberIn (args .text .now) (sym (c .before .before .before .begins .ensures) ∙ c .before .before .if1 .taken))
+    c .number-in .ensures ∙
+    sym (key-read (args .key .now) numberIn (args .text .now)
+    (sym (c .before .before .before .begins .ensures) ∙ c .before .before .if1 .taken))
 
 returns-2 : tie.Need-returns-2
 returns-2 c =

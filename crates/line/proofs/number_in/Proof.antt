@@ -94,8 +94,11 @@ loop-less c = search needs
 loop-again : tie.Need-loop-again Inv-loop μ-loop
 loop-again c =
     let at = c .before .before .before .before .before .loop in
-    let text = c .before .before .before .before .before .before .before .before .args .text .now in
-    (search needs, search needs, at .inv .2 ∙ digits-on (at .number) text (at .i) (search needs) (search needs) (search needs) (search needs))
+    let text = c .before .before .before .before .before .before .before .before .args .text .now in (
+      search needs,
+      search needs,
+      at .inv .2 ∙ digits-on (at .number) text (at .i) (search needs) (search needs) (search needs) (search needs),
+    )
 
 -- src/lib.rt:81:1
 returns-6 : tie.Need-returns-6 Inv-loop μ-loop

@@ -52,7 +52,8 @@ returns : tie.Need-returns
 unfolding ascii
 returns c =
     c .step-of .ensures
-    ∙ line-read (c .before .before .before .before .before .before .before .before .before .before .before .before .before .before .before .args .line .now)
+    ∙ line-read (c .before .before .before .before .before .before .before .before .before .before .before .before
+    .before .before .before .args .line .now)
     (c .before .before .before .before .before .before .before .before .before .before .before .before .before .after-space .ensures)
     (c .before .before .before .before .before .before .before .before .before .before .before .before .after-space2 .ensures)
     (c .before .before .before .before .before .before .before .before .before .before .before .before-space .ensures)

@@ -42,8 +42,11 @@ loop-less c = search needs
 loop-again : tie.Need-loop-again Inv-loop μ-loop
 loop-again c =
     let at = c .before .before .before .before .loop in
-    let texts = c .before .before .before .before .before .before .args in
-    (search needs, search needs, at .inv .2 ∙ same-on (texts .one .now) (texts .other .now) (at .i) (search needs) (search needs) (c .if2 .left))
+    let texts = c .before .before .before .before .before .before .args in (
+      search needs,
+      search needs,
+      at .inv .2 ∙ same-on (texts .one .now) (texts .other .now) (at .i) (search needs) (search needs) (c .if2 .left),
+    )
 
 returns-3 : tie.Need-returns-3 Inv-loop μ-loop
 returns-3 c =

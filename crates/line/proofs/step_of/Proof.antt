@@ -34,7 +34,11 @@ enum-told-2 c = search needs
 
 returns-2 : tie.Need-returns-2
 unfolding stepLine
-returns-2 c = rw (c .before .before .before .kind .given .1, nothing (c .before .before .before .before .before .args .thread) (c .before .match2 .keys2))
+returns-2 c =
+    rw (
+      c .before .before .before .kind .given .1,
+      nothing (c .before .before .before .before .before .args .thread) (c .before .match2 .keys2),
+    )
 
 enum-known-place : tie.Need-enum-known-place
 enum-known-place c = search needs
@@ -44,7 +48,12 @@ enum-told-3 c = search needs
 
 returns-3 : tie.Need-returns-3
 unfolding stepLine
-returns-3 c = rw (c .before .before .before .before .before .before .kind .given .1, c .before .before .before .thread .given .1, nothing (c .before .before .before .before .before .before .before .before .args .place) (c .before .match3 .keys2))
+returns-3 c =
+    rw (
+      c .before .before .before .before .before .before .kind .given .1,
+      c .before .before .before .thread .given .1,
+      nothing (c .before .before .before .before .before .before .before .before .args .place) (c .before .match3 .keys2),
+    )
 
 enum-known-value : tie.Need-enum-known-value
 enum-known-value c = search needs
@@ -54,11 +63,24 @@ enum-told-4 c = search needs
 
 returns-4 : tie.Need-returns-4
 unfolding stepLine
-returns-4 c = rw (c .before .before .before .before .before .before .before .before .before .kind .given .1, c .before .before .before .before .before .before .thread .given .1, c .before .before .before .place .given .1, nothing (c .before .before .before .before .before .before .before .before .before .before .before .args .value) (c .before .match4 .keys2))
+returns-4 c =
+    rw (
+      c .before .before .before .before .before .before .before .before .before .kind .given .1,
+      c .before .before .before .before .before .before .thread .given .1,
+      c .before .before .before .place .given .1,
+      nothing (c .before .before .before .before .before .before .before .before .before .before .before .args .value)
+          (c .before .match4 .keys2),
+    )
 
 returns-5 : tie.Need-returns-5
 unfolding stepLine
-returns-5 c = rw (c .before .before .before .before .before .before .before .before .before .before .kind .given .1, c .before .before .before .before .before .before .before .thread .given .1, c .before .before .before .before .place .given .1, c .before .value .given .1)
+returns-5 c =
+    rw (
+      c .before .before .before .before .before .before .before .before .before .before .kind .given .1,
+      c .before .before .before .before .before .before .before .thread .given .1,
+      c .before .before .before .before .place .given .1,
+      c .before .value .given .1,
+    )
 
 pub step-of-spec : {M : Type 1} → statement M
 step-of-spec =

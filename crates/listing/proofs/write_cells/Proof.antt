@@ -40,8 +40,16 @@ loop-again c =
     let at = c .before .before .before .loop in
     let whole = c .before .before .before .before .before .before .pre in
     ⊎-elim
-    (λ w. (search needs, cells-more (args .output .now) (args .place) (args .cells .now) whole (at .i) (search needs) (at .inv .1) (w .0 .taken) (w .6 ∙ w .2 .ensures .0) (w .5 ∙ w .2 .ensures .1)))
-    (λ w. (search needs, rw (w .1, w .2) (cells-same (args .output .now) (args .place) (args .cells .now) whole (at .i) (search needs) (at .inv .1) (w .0 .left))))
+    (λ w. (
+      search needs,
+      cells-more (args .output .now) (args .place) (args .cells .now) whole (at .i) (search needs) (at .inv .1)
+          (w .0 .taken) (w .6 ∙ w .2 .ensures .0) (w .5 ∙ w .2 .ensures .1),
+    ))
+    (λ w. (
+      search needs,
+      rw (w .1, w .2)
+          (cells-same (args .output .now) (args .place) (args .cells .now) whole (at .i) (search needs) (at .inv .1) (w .0 .left)),
+    ))
     (c .if1 .came)
 
 same-length : tie.Need-same-length Inv-loop μ-loop
@@ -52,7 +60,8 @@ same-length c =
 returns : tie.Need-returns Inv-loop μ-loop
 returns c =
     let args = c .before .before .before .before .args in
-    cells-done (args .output .now) (args .place) (args .cells .now) (c .before .before .before .before .pre) (c .before .loop .i) (search needs) (c .before .loop .inv .1)
+    cells-done (args .output .now) (args .place) (args .cells .now) (c .before .before .before .before .pre)
+    (c .before .loop .i) (search needs) (c .before .loop .inv .1)
 
 pub write-cells-spec : {M : Type 1} → statement M
 write-cells-spec =

@@ -27,8 +27,11 @@ recover-requires : tie.Need-recover-requires
 recover-requires c κs = search needs
 
 -- what the two calls leave
-cells-are : (c : tie.After-recover) → c .recover .last .1 .0 ≡ recoveredCells (c .before .before .before .before .before .before .before .args .machine)
-cells-are c = recovered-are (c .before .before .before .before .before .before .before .args .machine) (c .before .before .before .before .cut .ensures) (c .recover .ensures)
+cells-are : (c : tie.After-recover) →
+    c .recover .last .1 .0 ≡ recoveredCells (c .before .before .before .before .before .before .before .args .machine)
+cells-are c =
+    recovered-are (c .before .before .before .before .before .before .before .args .machine)
+    (c .before .before .before .before .cut .ensures) (c .recover .ensures)
 
 slice-aggregate-write-cells : tie.Need-slice-aggregate-write-cells
 slice-aggregate-write-cells c = search needs
@@ -36,7 +39,9 @@ slice-aggregate-write-cells c = search needs
 write-cells-requires : tie.Need-write-cells-requires
 write-cells-requires c κs =
     let args = c .before .before .before .before .before .before .before .before .before .before .args in
-    subst⁻¹ (λ (cells : List ℕ). args .place + length (cellsText 0 cells) ≤ length (args .output .now)) (cells-are (c .before .before .before)) (c .before .before .before .before .before .before .before .before .before .before .pre .1)
+    subst⁻¹ (λ (cells : List ℕ). args .place + length (cellsText 0 cells) ≤ length (args .output .now))
+    (cells-are (c .before .before .before))
+    (c .before .before .before .before .before .before .before .before .before .before .pre .1)
 
 same-length : tie.Need-same-length
 same-length c = search needs
@@ -46,7 +51,8 @@ returns c =
     let args = c .before .before .before .before .before .before .before .before .before .before .before .before .before .args in
     let are = cells-are (c .before .before .before .before .before .before) in (
       c .before .before .write-cells .ensures .0 ∙ ap (λ (cells : List ℕ). args .place + length (cellsText 0 cells)) are,
-      c .before .before .write-cells .ensures .1 ∙ ap (λ (cells : List ℕ). written (args .output .now) (args .place) (cellsText 0 cells)) are,
+      c .before .before .write-cells .ensures .1 ∙
+          ap (λ (cells : List ℕ). written (args .output .now) (args .place) (cellsText 0 cells)) are,
     )
 
 pub write-recovered-spec : {M : Type 1} → statement M

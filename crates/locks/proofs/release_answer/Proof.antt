@@ -15,10 +15,9 @@ use Rattle.locks.proofs.release_answer.Tie as tie
 releases : (c : tie.Else1) → let a = c .before .before .before .args in isReleasingLock (a .log .tail .releasing) (a .place) ≡ true
 releases c = sym (c .before .is-releasing-lock .ensures) ∙ not-false _ (c .if1 .left)
 
-undurable : (c : tie.After-is-undurable-before)
-    → let log = c .before .before .before .before .before .before .args .log in
-    isUndurableUpTo log (log .tail .next .0 - 1) ≡ c .is-undurable-before .result
-undurable c = sym (c .is-undurable-before .ensures)
+undurable : (c : tie.After-ends-undurable)
+    → let log = c .before .before .before .before .args .log in isUndurableUpTo log (log .tail .next .0 - 1) ≡ c .ends-undurable .result
+undurable c = sym (c .ends-undurable .ensures)
 
 is-releasing-lock-requires : tie.Need-is-releasing-lock-requires
 is-releasing-lock-requires c κs = search needs
@@ -27,27 +26,17 @@ returns : tie.Need-returns
 unfolding firstRefusal unless releaseTests
 returns c = rw (sym (c .before .is-releasing-lock .ensures) ∙ not-true _ (c .if1 .taken))
 
-cast-is-undurable-before : tie.Need-cast-is-undurable-before
-cast-is-undurable-before c = search needs
-
-is-undurable-before-requires : tie.Need-is-undurable-before-requires
-is-undurable-before-requires c κs = search needs
+ends-undurable-requires : tie.Need-ends-undurable-requires
+ends-undurable-requires c κs = search needs
 
 returns-2 : tie.Need-returns-2
 unfolding firstRefusal unless releaseTests
-returns-2 c = rw (releases (c .before .before .before .before), undurable (c .before) ∙ c .if2 .taken)
+returns-2 c = rw (releases (c .before .before), undurable (c .before) ∙ c .if2 .taken)
 
 returns-3 : tie.Need-returns-3
 unfolding firstRefusal unless releaseTests
-returns-3 c = rw (releases (c .before .before .before .before), undurable (c .before) ∙ c .if2 .left)
+returns-3 c = rw (releases (c .before .before), undurable (c .before) ∙ c .if2 .left)
 
 pub release-answer-spec : {M : Type 1} → statement M
 release-answer-spec =
-    tie.close
-    (tie.spec
-    is-releasing-lock-requires
-    returns
-    cast-is-undurable-before
-    is-undurable-before-requires
-    returns-2
-    returns-3)
+    tie.close (tie.spec is-releasing-lock-requires returns ends-undurable-requires returns-2 returns-3)

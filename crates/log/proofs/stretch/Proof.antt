@@ -1,4 +1,5 @@
 -- `log::stretch` meets its contract.
+use Rattle.sizes.specs.Sizes.{threadCount}
 use Rattle.log.specs.Stretch.{stretchOf}
 use borrow.Author.Tests.{lt-ltb, le-ltb, eq-eqb, ne-eqb}
 use lib.ListN.{length}
@@ -20,7 +21,7 @@ part-result-end c = search needs
 
 returns : tie.Need-returns
 unfolding stretchOf
-returns c = rw (le-ltb (c .before .before .args .thread) 4 (omega arith))
+returns c = rw (le-ltb (c .before .before .args .thread) threadCount (omega arith))
 
 sub-result-2 : tie.Need-sub-result-2
 sub-result-2 c = search needs
@@ -35,7 +36,7 @@ returns-2 : tie.Need-returns-2
 unfolding stretchOf
 returns-2 c =
     let a = c .before .before .before .args in
-    rw (lt-ltb (a .thread) 4 (omega arith), ne-eqb (length (a .image .now)) 1156 (c .before .if2 .taken))
+    rw (lt-ltb (a .thread) threadCount (omega arith), ne-eqb (length (a .image .now)) 1156 (c .before .if2 .taken))
 
 mul-first : tie.Need-mul-first
 mul-first c = search needs
@@ -66,7 +67,7 @@ returns-3 : tie.Need-returns-3
 unfolding stretchOf
 returns-3 c =
     let a = c .before .before .before .args in
-    rw (width, lt-ltb (a .thread) 4 (omega arith), eq-eqb (length (a .image .now)) 1156 (c .before .if2 .left))
+    rw (width, lt-ltb (a .thread) threadCount (omega arith), eq-eqb (length (a .image .now)) 1156 (c .before .if2 .left))
 
 pub stretch-spec : {M : Type 1} → statement M
 stretch-spec =

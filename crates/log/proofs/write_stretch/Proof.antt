@@ -1,5 +1,5 @@
--- `log::write_stretch` meets its contract. The loop's invariant: the words before `i` are those of the persisted slots, and the others are as
--- they were.
+-- `log::write_stretch` meets its contract. The loop's invariant: the words before `i` are those of the persisted slots, and the others
+-- are as they were.
 use mathlib.Core.Path.{_≡_, refl, sym, ap, _∙_}
 use mathlib.Core.List.{List, map, _++_}
 use Prim.Native.Nat.{ℕ, _+_, _-_, _*_, _/_, _%_, _≤_}
@@ -67,8 +67,12 @@ loop-again c =
     let word : c .word .result ≡ getD (wordsOf (a .log .persisted)) (l .i) 0 =
     c .word .ensures
     ∙ sym (slot-word (a .log .persisted) (l .i / 4) (l .i % 4) (omega arith))
-    ∙ ap (λ place. getD (wordsOf (a .log .persisted)) place 0) here in
-    (search needs, search needs, simp length-set (l .inv .2), rw (l .inv .3, word) (copied-more (a .part .now) (wordsOf (a .log .persisted)) (l .i) (omega arith) (omega arith)))
+    ∙ ap (λ place. getD (wordsOf (a .log .persisted)) place 0) here in (
+      search needs,
+      search needs,
+      simp length-set (l .inv .2),
+      rw (l .inv .3, word) (copied-more (a .part .now) (wordsOf (a .log .persisted)) (l .i) (omega arith) (omega arith)),
+    )
 
 same-length : tie.Need-same-length Inv-loop μ-loop
 same-length c = c .before .loop .inv .2

@@ -10,7 +10,8 @@ use Rattle.machine.proofs.start_cells.Statement.{statement}
 use Rattle.machine.proofs.start_cells.Tie as tie
 
 -- a turn writes the next word
-turn : (words old cells : List ℕ) (cell : ℕ) → length words ≡ length old → cell < length old → cells ≡ partly cell words old → set cells cell (getD words cell 0) ≡ partly (cell + 1) words old
+turn : (words old cells : List ℕ) (cell : ℕ) → length words ≡ length old → cell < length old →
+    cells ≡ partly cell words old → set cells cell (getD words cell 0) ≡ partly (cell + 1) words old
 turn words old cells cell long below is = rw is (partly-write words old 0 long cell (getD words cell 0) below refl)
 
 abbrev Inv-loop : tie.InvT-loop

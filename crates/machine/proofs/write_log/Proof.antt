@@ -51,7 +51,8 @@ same-length c =
     let a = c .before .before .before .before .before .before .before .args in
     let head = a .log .head .0 in
     let image = set (a .image .now) (headsAt + a .thread) head in
-    same-len-mid (stretchAt (a .thread)) (length image - stretchAt (a .thread)) image (c .before .before .write-stretch .last .1 .0) (c .before .before .write-stretch .kept .1 .0) ∙
+    same-len-mid (stretchAt (a .thread)) (length image - stretchAt (a .thread)) image
+    (c .before .before .write-stretch .last .1 .0) (c .before .before .write-stretch .kept .1 .0) ∙
     length-set (a .image .now) (headsAt + a .thread) head
 
 returns : tie.Need-returns

@@ -18,7 +18,8 @@ abbrev μ-loop : tie.MeasureT-loop
 μ-loop buffer₀ place text i₀ buffer i = length text - i
 
 -- the buffer keeps its length
-long : (buffer : List ℕ) (place : ℕ) (text : List ℕ) (i : ℕ) → place + length text ≤ length buffer → i ≤ length text → {held : List ℕ} → held ≡ paste buffer place text i → length held ≡ length buffer
+long : (buffer : List ℕ) (place : ℕ) (text : List ℕ) (i : ℕ) → place + length text ≤ length buffer → i ≤ length text →
+    {held : List ℕ} → held ≡ paste buffer place text i → length held ≡ length buffer
 long buffer place text i fits within is = ap length is ∙ length-paste buffer place text i (omega arith) within
 
 returns : tie.Need-returns Inv-loop μ-loop
@@ -28,7 +29,8 @@ sub-if2 : tie.Need-sub-if2 Inv-loop μ-loop
 sub-if2 c = search needs
 
 returns-2 : tie.Need-returns-2 Inv-loop μ-loop
-returns-2 c = unwritten (c .before .before .args .buffer .now) (c .before .before .args .place) (c .before .before .args .text .now) (omega arith)
+returns-2 c =
+    unwritten (c .before .before .args .buffer .now) (c .before .before .args .place) (c .before .before .args .text .now) (omega arith)
 
 loop-holds : tie.Need-loop-holds Inv-loop μ-loop
 loop-holds c =

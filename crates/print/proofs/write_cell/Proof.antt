@@ -53,14 +53,34 @@ write-requires-3 : tie.Need-write-requires-3
 write-requires-3 c κs = search needs
 
 -- the line
-line-made : (c : tie.After-write3) → Wrote (replicate 53 0) (c .write3 .last .0) (c .write3 .result) (cellText (c .before .before .before .before .before .before .before .before .before .before .before .before .before .before .before .before .before .before .args .cell) (c .before .before .before .before .before .before .before .before .before .before .before .before .before .before .before .before .before .before .args .content))
+line-made : (c : tie.After-write3) →
+    Wrote (replicate 53 0) (c .write3 .last .0) (c .write3 .result)
+    (cellText (c .before .before .before .before .before .before .before .before .before .before .before .before .before
+    .before .before .before .before .before .args .cell)
+    (c .before .before .before .before .before .before .before .before .before .before .before .before .before .before
+    .before .before .before .before .args .content))
 unfolding ascii
 line-made c =
-    let args = c .before .before .before .before .before .before .before .before .before .before .before .before .before .before .before .before .before .before .args in
-    let made1 = upto-more (upto-nothing (replicate 53 0)) (ascii "cell=") 5 (omega arith) (omega arith) (c .before .before .before .before .before .before .before .before .before .before .before .before .before .before .write .ensures .0) (c .before .before .before .before .before .before .before .before .before .before .before .before .before .before .write .ensures .1) in
-    let made2 = upto-more made1 (decimalText (args .cell)) 20 (decimal-most (args .cell)) (omega arith) (c .before .before .before .before .before .before .before .before .before .before .before .write-number .ensures .0) (c .before .before .before .before .before .before .before .before .before .before .before .write-number .ensures .1) in
-    let made3 = upto-more made2 (ascii " holds=") 7 (omega arith) (omega arith) (c .before .before .before .before .before .before .before .write2 .ensures .0) (c .before .before .before .before .before .before .before .write2 .ensures .1) in
-    let made4 = upto-more made3 (decimalText (args .content)) 20 (decimal-most (args .content)) (omega arith) (c .before .before .before .before .write-number2 .ensures .0) (c .before .before .before .before .write-number2 .ensures .1) in
+    let args =
+    c .before .before .before .before .before .before .before .before .before .before .before .before .before .before
+    .before .before .before .before .args in
+    let made1 =
+    upto-more (upto-nothing (replicate 53 0)) (ascii "cell=") 5 (omega arith) (omega arith)
+    (c .before .before .before .before .before .before .before .before .before .before .before .before .before .before .write .ensures .0)
+    (c .before .before .before .before .before .before .before .before .before .before .before .before .before .before
+    .write .ensures .1) in
+    let made2 =
+    upto-more made1 (decimalText (args .cell)) 20 (decimal-most (args .cell)) (omega arith)
+    (c .before .before .before .before .before .before .before .before .before .before .before .write-number .ensures .0)
+    (c .before .before .before .before .before .before .before .before .before .before .before .write-number .ensures .1) in
+    let made3 =
+    upto-more made2 (ascii " holds=") 7 (omega arith) (omega arith)
+    (c .before .before .before .before .before .before .before .write2 .ensures .0)
+    (c .before .before .before .before .before .before .before .write2 .ensures .1) in
+    let made4 =
+    upto-more made3 (decimalText (args .content)) 20 (decimal-most (args .content)) (omega arith)
+    (c .before .before .before .before .write-number2 .ensures .0)
+    (c .before .before .before .before .write-number2 .ensures .1) in
     let made5 = upto-more made4 (ascii "\n") 1 (omega arith) (omega arith) (c .write3 .ensures .0) (c .write3 .ensures .1) in
     cell-line (args .cell) (args .content) made5
 
@@ -80,7 +100,9 @@ same-length c = search needs
 
 returns : tie.Need-returns
 returns c =
-    let args = c .before .before .before .before .before .before .before .before .before .before .before .before .before .before .before .before .before .before .before .before .before .before .before .before .args in
+    let args =
+    c .before .before .before .before .before .before .before .before .before .before .before .before .before .before
+    .before .before .before .before .before .before .before .before .before .before .args in
     let made = wrote-front (line-made (c .before .before .before .before .before .before)) in (
       c .before .before .write4 .ensures .0 ∙ ap (placeAfter (args .buffer .now) (args .place)) made,
       c .before .before .write4 .ensures .1 ∙ ap (written (args .buffer .now) (args .place)) made,

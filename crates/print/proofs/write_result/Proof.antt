@@ -74,18 +74,51 @@ write-requires-4 : tie.Need-write-requires-4
 write-requires-4 c κs = search needs
 
 -- the line
-line-made : (c : tie.After-write4) → Wrote (replicate 78 0) (c .write4 .last .0) (c .write4 .result) (resultText (c .before .before .before .before .before .before .before .before .before .before .before .before .before .before .before .before .before .before .before .before .before .before .before .before .before .before .before .args .number) (c .before .before .before .before .before .before .before .before .before .before .before .before .before .before .before .before .before .before .before .before .before .before .before .before .before .before .before .args .answer))
+line-made : (c : tie.After-write4) →
+    Wrote (replicate 78 0) (c .write4 .last .0) (c .write4 .result)
+    (resultText (c .before .before .before .before .before .before .before .before .before .before .before .before
+    .before .before .before .before .before .before .before .before .before .before .before .before .before .before
+    .before .args .number)
+    (c .before .before .before .before .before .before .before .before .before .before .before .before .before .before
+    .before .before .before .before .before .before .before .before .before .before .before .before .before .args
+    .answer))
 unfolding ascii
 line-made c =
-    let args = c .before .before .before .before .before .before .before .before .before .before .before .before .before .before .before .before .before .before .before .before .before .before .before .before .before .before .before .args in
+    let args =
+    c .before .before .before .before .before .before .before .before .before .before .before .before .before .before
+    .before .before .before .before .before .before .before .before .before .before .before .before .before .args in
     let given = c .before .before .before .before .before .before .before .before .before .before .before .before .before .number in
     let beside = c .before .before .before .before .before .value in
-    let made1 = upto-more (upto-nothing (replicate 78 0)) (ascii "n=") 2 (omega arith) (omega arith) (c .before .before .before .before .before .before .before .before .before .before .before .before .before .before .before .before .before .before .before .before .before .before .before .write .ensures .0) (c .before .before .before .before .before .before .before .before .before .before .before .before .before .before .before .before .before .before .before .before .before .before .before .write .ensures .1) in
-    let made2 = upto-more made1 (decimalText (args .number)) 20 (decimal-most (args .number)) (omega arith) (c .before .before .before .before .before .before .before .before .before .before .before .before .before .before .before .before .before .before .before .before .write-number .ensures .0) (c .before .before .before .before .before .before .before .before .before .before .before .before .before .before .before .before .before .before .before .before .write-number .ensures .1) in
-    let made3 = upto-more made2 (ascii " answer=") 8 (omega arith) (omega arith) (c .before .before .before .before .before .before .before .before .before .before .before .before .before .before .before .before .write2 .ensures .0) (c .before .before .before .before .before .before .before .before .before .before .before .before .before .before .before .before .write2 .ensures .1) in
-    let made4 = upto-more made3 (decimalText (given .result)) 20 (decimal-most (given .result)) (omega arith) (c .before .before .before .before .before .before .before .before .before .before .before .before .write-number2 .ensures .0) (c .before .before .before .before .before .before .before .before .before .before .before .before .write-number2 .ensures .1) in
-    let made5 = upto-more made4 (ascii " value=") 7 (omega arith) (omega arith) (c .before .before .before .before .before .before .before .before .write3 .ensures .0) (c .before .before .before .before .before .before .before .before .write3 .ensures .1) in
-    let made6 = upto-more made5 (decimalText (beside .result)) 20 (decimal-most (beside .result)) (omega arith) (c .before .before .before .before .write-number3 .ensures .0) (c .before .before .before .before .write-number3 .ensures .1) in
+    let made1 =
+    upto-more (upto-nothing (replicate 78 0)) (ascii "n=") 2 (omega arith) (omega arith)
+    (c .before .before .before .before .before .before .before .before .before .before .before .before .before .before
+    .before .before .before .before .before .before .before .before .before .write .ensures .0)
+    (c .before .before .before .before .before .before .before .before .before .before .before .before .before .before
+    .before .before .before .before .before .before .before .before .before .write .ensures .1) in
+    let made2 =
+    upto-more made1 (decimalText (args .number)) 20 (decimal-most (args .number)) (omega arith)
+    (c .before .before .before .before .before .before .before .before .before .before .before .before .before .before
+    .before .before .before .before .before .before .write-number .ensures .0)
+    (c .before .before .before .before .before .before .before .before .before .before .before .before .before .before
+    .before .before .before .before .before .before .write-number .ensures .1) in
+    let made3 =
+    upto-more made2 (ascii " answer=") 8 (omega arith) (omega arith)
+    (c .before .before .before .before .before .before .before .before .before .before .before .before .before .before
+    .before .before .write2 .ensures .0)
+    (c .before .before .before .before .before .before .before .before .before .before .before .before .before .before
+    .before .before .write2 .ensures .1) in
+    let made4 =
+    upto-more made3 (decimalText (given .result)) 20 (decimal-most (given .result)) (omega arith)
+    (c .before .before .before .before .before .before .before .before .before .before .before .before .write-number2 .ensures .0)
+    (c .before .before .before .before .before .before .before .before .before .before .before .before .write-number2 .ensures .1) in
+    let made5 =
+    upto-more made4 (ascii " value=") 7 (omega arith) (omega arith)
+    (c .before .before .before .before .before .before .before .before .write3 .ensures .0)
+    (c .before .before .before .before .before .before .before .before .write3 .ensures .1) in
+    let made6 =
+    upto-more made5 (decimalText (beside .result)) 20 (decimal-most (beside .result)) (omega arith)
+    (c .before .before .before .before .write-number3 .ensures .0)
+    (c .before .before .before .before .write-number3 .ensures .1) in
     let made7 = upto-more made6 (ascii "\n") 1 (omega arith) (omega arith) (c .write4 .ensures .0) (c .write4 .ensures .1) in
     result-line (args .number) (args .answer) (given .ensures) (beside .ensures) made7
 
@@ -105,7 +138,10 @@ same-length c = search needs
 
 returns : tie.Need-returns
 returns c =
-    let args = c .before .before .before .before .before .before .before .before .before .before .before .before .before .before .before .before .before .before .before .before .before .before .before .before .before .before .before .before .before .before .before .before .before .args in
+    let args =
+    c .before .before .before .before .before .before .before .before .before .before .before .before .before .before
+    .before .before .before .before .before .before .before .before .before .before .before .before .before .before
+    .before .before .before .before .before .args in
     let made = wrote-front (line-made (c .before .before .before .before .before .before)) in (
       c .before .before .write5 .ensures .0 ∙ ap (placeAfter (args .buffer .now) (args .place)) made,
       c .before .before .write5 .ensures .1 ∙ ap (written (args .buffer .now) (args .place)) made,

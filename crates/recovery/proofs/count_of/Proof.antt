@@ -29,7 +29,8 @@ returns-5 : tie.Need-returns-5
 unfolding countOf
 returns-5 c =
     let a = c .before .before .before .before .args in
-    let past : threadCount ≤ a .thread = omega (arith, c .before .before .before .if1 .left, c .before .before .if2 .left, c .before .if3 .left, c .if4 .left) in
+    let past : threadCount ≤ a .thread =
+    omega (arith, c .before .before .before .if1 .left, c .before .before .if2 .left, c .before .if3 .left, c .if4 .left) in
     sym (List·getD-eq-default (countsOf (a .row)) (syncCount 0) past)
 
 pub count-of-spec : {M : Type 1} → statement M

@@ -13,7 +13,7 @@ returns c = rw (eq-eqb _ _ (c .if1 .taken))
 
 returns-2 : tie.Need-returns-2
 unfolding mayTakeLast
-returns-2 c = rw (ne-eqb _ _ (c .before .before .if1 .left), ne-eqb _ _ (c .if2 .taken))
+returns-2 c = rw (ne-eqb _ _ (c .before .before .if1 .left), ne-eqb _ 3 (c .if2 .taken))
 
 waits-requires : tie.Need-waits-requires
 waits-requires c κs = search needs

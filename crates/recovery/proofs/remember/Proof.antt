@@ -83,7 +83,8 @@ loop-again c =
     let p = l .before .before .pre in (
       omega (arith, t .before .loop-test .taken),
       rw (c .with-count .ensures, c .before .later .ensures, k .count-of .ensures, o .lock-of .ensures)
-          (pass-on (p .0) (p .1) (l .loop .place) (t .before .loop-test .taken) (t .if1 .taken) (l .loop .inv .1) (e .entry-of .result) (e .entry-of .ensures)),
+          (pass-on (p .0) (p .1) (l .loop .place) (t .before .loop-test .taken) (t .if1 .taken) (l .loop .inv .1)
+          (e .entry-of .result) (e .entry-of .ensures)),
     )
 
 loop-less-2 : tie.Need-loop-less-2 Inv-loop μ-loop

@@ -7,11 +7,13 @@ use native.Mathlib.Omega.{arith}
 use borrow.Author.Needs.{needs}
 use Rattle.sizes.specs.Sizes.{threadCount}
 use Rattle.ring.specs.Ring.{slotCount}
-use Rattle.recovery.specs.Undo.{storedLogs, leftOf, mayTake}
-use Rattle.recovery.specs.Reading.{logIn, entryIn}
+use Rattle.image.specs.Stored.{storedLogs}
+use Rattle.image.specs.Reading.{logIn, entryIn}
+use Rattle.image.specs.declared.Entry.{Entry}
+use Rattle.recovery.specs.Undo.{leftOf, mayTake}
 use Rattle.recovery.specs.Latest.{lockOf, rowOf, mayTakeLast}
-use Rattle.recovery.specs.declared.Entry.{Entry}
-use Rattle.recovery.proofs.Turns.{Midway, may-last, turns-start, turns-stop, turns-pass, turns-end, turn-has, turn-last, turn-good, turns-on}
+use Rattle.recovery.proofs.Turns.{Midway, may-last, turns-start, turns-stop, turns-pass, turns-end, turn-has, turn-last, turn-good}
+use Rattle.recovery.proofs.Turns.{turns-on}
 use Rattle.recovery.proofs.undo.Statement.{statement}
 use Rattle.recovery.proofs.undo.Tie as tie
 
@@ -72,10 +74,12 @@ tested c =
     let is = c .before .before .before .last-of .ensures in
     sym
     (c .may-take .ensures
-    ∙ ap₂ (λ (last : Entry) (lock : ℕ). mayTakeLast last (rowOf (at c .loop .latest) lock)) is (c .before .before .lock-of .ensures ∙ ap (λ (last : Entry). lockOf (last .place)) is)
+    ∙ ap₂ (λ (last : Entry) (lock : ℕ). mayTakeLast last (rowOf (at c .loop .latest) lock)) is
+    (c .before .before .lock-of .ensures ∙ ap (λ (last : Entry). lockOf (last .place)) is)
     ∙ may-last (at c .loop .inv .tracked) (at c .loop .thread) (at c .loop .inv .inside))
 
-may : (c : tie.Then1 Inv-loop μ-loop) → mayTake (storedLogs (image-at (c .before))) (at (c .before) .loop .left) (at (c .before) .loop .thread) ≡ true
+may : (c : tie.Then1 Inv-loop μ-loop) →
+    mayTake (storedLogs (image-at (c .before))) (at (c .before) .loop .left) (at (c .before) .loop .thread) ≡ true
 may c = tested (c .before) ∙ c .if1 .taken
 
 inside : (c : tie.Then1 Inv-loop μ-loop) → at (c .before) .loop .thread < threadCount
@@ -90,7 +94,8 @@ has c = turn-has (at (c .before) .loop .inv) (may c)
 -- the entry that is taken is the thread's last one
 taken : (c : tie.Then1 Inv-loop μ-loop)
     → let l = at (c .before) in
-    c .before .before .before .before .last-of .result ≡ entryIn (logIn (image-at (c .before)) (l .loop .thread)) (leftOf (l .loop .left) (l .loop .thread) - 1)
+    c .before .before .before .before .last-of .result ≡
+    entryIn (logIn (image-at (c .before)) (l .loop .thread)) (leftOf (l .loop .left) (l .loop .thread) - 1)
 taken c = c .before .before .before .before .last-of .ensures ∙ turn-last (at (c .before) .loop .inv) (may c)
 
 mul-index : tie.Need-mul-index Inv-loop μ-loop

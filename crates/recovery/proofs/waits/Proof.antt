@@ -6,8 +6,8 @@ use borrow.Author.Tests.{lt-ltb, le-ltb}
 use borrow.Author.Needs.{needs}
 use Rattle.sizes.specs.Sizes.{threadCount}
 use Rattle.undo.specs.declared.SyncCount.{SyncCount}
+use Rattle.image.proofs.Searches.{Searched, search-starts, search-on, search-finds, search-ends}
 use Rattle.recovery.specs.Latest.{countOf}
-use Rattle.recovery.proofs.Searches.{Searched, search-starts, search-on, search-finds, search-ends}
 use Rattle.recovery.proofs.waits.Statement.{statement}
 use Rattle.recovery.proofs.waits.Tie as tie
 
@@ -26,11 +26,14 @@ count-of-requires c κs = search needs
 -- the count that was read is the one of the definition
 larger : (c : tie.After-count-of Inv-loop μ-loop)
     → let l = c .before .before in
-    ltb (l .before .args .count .0) (countOf (l .before .args .row) (l .loop .thread) .0) ≡ ltb (l .before .args .count .0) (c .count-of .result .0)
+    ltb (l .before .args .count .0) (countOf (l .before .args .row) (l .loop .thread) .0) ≡
+    ltb (l .before .args .count .0) (c .count-of .result .0)
 larger c = let l = c .before .before in ap (λ (other : SyncCount). ltb (l .before .args .count .0) (other .0)) (sym (c .count-of .ensures))
 
 returns : tie.Need-returns Inv-loop μ-loop
-returns c = search-finds (c .before .before .before .before .before .loop .inv) (search needs) (larger (c .before .before .before) ∙ lt-ltb _ _ (c .if1 .taken))
+returns c =
+    search-finds (c .before .before .before .before .before .loop .inv) (search needs)
+    (larger (c .before .before .before) ∙ lt-ltb _ _ (c .if1 .taken))
 
 add-thread : tie.Need-add-thread Inv-loop μ-loop
 add-thread c = search needs
@@ -39,7 +42,9 @@ loop-less : tie.Need-loop-less Inv-loop μ-loop
 loop-less c = search needs
 
 loop-again : tie.Need-loop-again Inv-loop μ-loop
-loop-again c = search-on (c .before .before .before .before .before .loop .inv) (search needs) (larger (c .before .before .before) ∙ le-ltb _ _ (c .if1 .left))
+loop-again c =
+    search-on (c .before .before .before .before .before .loop .inv) (search needs)
+    (larger (c .before .before .before) ∙ le-ltb _ _ (c .if1 .left))
 
 returns-2 : tie.Need-returns-2 Inv-loop μ-loop
 returns-2 c = search-ends (c .before .loop .inv) (search needs)

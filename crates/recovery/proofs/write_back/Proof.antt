@@ -3,7 +3,7 @@ use Prim.Native.Nat.{_<_}
 use native.Mathlib.Omega.{arith}
 use borrow.Author.Tests.{eq-eqb, ne-eqb}
 use Rattle.log.specs.Stretch.{headsAt}
-use Rattle.recovery.proofs.GoodEntries.{good-store}
+use Rattle.image.proofs.GoodEntries.{good-store}
 use Rattle.recovery.proofs.write_back.Statement.{statement}
 use Rattle.recovery.proofs.write_back.Tie as tie
 

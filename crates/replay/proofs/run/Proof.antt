@@ -34,7 +34,8 @@ abbrev Inv-loop : tie.InvT-loop
 Inv-loop start steps answer₀ machine₀ count done₀ answer machine done =
     (done ≤ count) ×
     Reached machine ×
-    (runOf (beside answer machine) (stepsFrom steps done (count - done)) ≡ runOf (beside answer₀ machine₀) (stepsFrom steps done₀ (count - done₀)))
+    (runOf (beside answer machine) (stepsFrom steps done (count - done)) ≡
+    runOf (beside answer₀ machine₀) (stepsFrom steps done₀ (count - done₀)))
 
 abbrev μ-loop : tie.MeasureT-loop
 μ-loop start steps answer₀ machine₀ count done₀ answer machine done = count - done

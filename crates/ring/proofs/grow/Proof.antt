@@ -35,7 +35,8 @@ returns-3 c =
     let s = c .before .before .before .before .before .before in
     let a = s .before .before .before .before .args in
     rw (c .after .ensures)
-    (sym (room _ _ (a .tail) (a .head .0) (s .before .if1 .left) (rw (← s .since .ensures) (c .before .before .before .before .before .if2 .left))))
+    (sym (room _ _ (a .tail) (a .head .0) (s .before .if1 .left)
+    (rw (← s .since .ensures) (c .before .before .before .before .before .if2 .left))))
 
 pub grow-spec : {M : Type 1} → statement M
 grow-spec =

@@ -13,7 +13,9 @@ use Rattle.step.proofs.step.Tie as tie
 
 -- a kind that is known is the step's, and its input was accepted
 of-kind : (c : tie.Joined1) (number : ℕ) → 0 < number → c .if1 .known ≡ number
-    → let a = c .before .before .before .args in (a .kind ≡ number) × (numberOf (inputAnswer (kindOf (a .kind)) (a .thread) (a .place) (a .value)) ≡ 0)
+    → let a =
+    c .before .before .before .args in
+    (a .kind ≡ number) × (numberOf (inputAnswer (kindOf (a .kind)) (a .thread) (a .place) (a .value)) ≡ 0)
 of-kind c number some isNumber =
     ⊎-elim
     (λ asked. (
@@ -119,28 +121,48 @@ unfolding kindOf
 returns-8 c =
     let a = c .before .before .before .before .before .args in
     let is = of-kind (c .before .before) 8 (omega arith) (c .before .match .keys8) in
-    c .flush-log .ensures ∙ rw (unused-place (a .thread) (a .place) (a .value) (a .kind) 8 FLUSHLOG refl (is .0) (is .1) refl, unused-value (a .thread) (a .place) (a .value) (a .kind) 8 FLUSHLOG refl (is .0) (is .1) refl, is .0)
+    c .flush-log .ensures ∙
+    rw (
+      unused-place (a .thread) (a .place) (a .value) (a .kind) 8 FLUSHLOG refl (is .0) (is .1) refl,
+      unused-value (a .thread) (a .place) (a .value) (a .kind) 8 FLUSHLOG refl (is .0) (is .1) refl,
+      is .0,
+    )
 
 returns-9 : tie.Need-returns-9
 unfolding kindOf
 returns-9 c =
     let a = c .before .before .before .before .before .args in
     let is = of-kind (c .before .before) 9 (omega arith) (c .before .match .keys9) in
-    c .fence .ensures ∙ rw (unused-place (a .thread) (a .place) (a .value) (a .kind) 9 FENCE refl (is .0) (is .1) refl, unused-value (a .thread) (a .place) (a .value) (a .kind) 9 FENCE refl (is .0) (is .1) refl, is .0)
+    c .fence .ensures ∙
+    rw (
+      unused-place (a .thread) (a .place) (a .value) (a .kind) 9 FENCE refl (is .0) (is .1) refl,
+      unused-value (a .thread) (a .place) (a .value) (a .kind) 9 FENCE refl (is .0) (is .1) refl,
+      is .0,
+    )
 
 returns-10 : tie.Need-returns-10
 unfolding kindOf
 returns-10 c =
     let a = c .before .before .before .before .before .args in
     let is = of-kind (c .before .before) 10 (omega arith) (c .before .match .keys10) in
-    c .prune .ensures ∙ rw (unused-place (a .thread) (a .place) (a .value) (a .kind) 10 PRUNE refl (is .0) (is .1) refl, unused-value (a .thread) (a .place) (a .value) (a .kind) 10 PRUNE refl (is .0) (is .1) refl, is .0)
+    c .prune .ensures ∙
+    rw (
+      unused-place (a .thread) (a .place) (a .value) (a .kind) 10 PRUNE refl (is .0) (is .1) refl,
+      unused-value (a .thread) (a .place) (a .value) (a .kind) 10 PRUNE refl (is .0) (is .1) refl,
+      is .0,
+    )
 
 returns-11 : tie.Need-returns-11
 unfolding kindOf
 returns-11 c =
     let a = c .before .before .before .before .before .args in
     let is = of-kind (c .before .before) 11 (omega arith) (c .before .match .keys11) in
-    c .evict .ensures ∙ rw (unused-thread (a .thread) (a .place) (a .value) (a .kind) 11 EVICT refl (is .0) (is .1) refl, unused-value (a .thread) (a .place) (a .value) (a .kind) 11 EVICT refl (is .0) (is .1) refl, is .0)
+    c .evict .ensures ∙
+    rw (
+      unused-thread (a .thread) (a .place) (a .value) (a .kind) 11 EVICT refl (is .0) (is .1) refl,
+      unused-value (a .thread) (a .place) (a .value) (a .kind) 11 EVICT refl (is .0) (is .1) refl,
+      is .0,
+    )
 
 returns-12 : tie.Need-returns-12
 unfolding kindOf
@@ -160,9 +182,16 @@ returns-13 c =
     (λ accepted.
     let isKnown = ap numberOf (sym asked) ∙ (sym (j .before .number .ensures) ∙ accepted .0 .taken) in
     let not : (number : ℕ) → (j .if1 .known ≡ number → ⊥) → a .kind ≡ number → ⊥ = λ number differs is. differs (accepted .1 ∙ is) in
-    let last = last-kind (a .thread) (a .place) (a .value) (a .kind) isKnown (not 1 (other .0 .0 .0 .0 .0 .0 .0 .0 .0 .0 .0 .1)) (not 2 (other .0 .0 .0 .0 .0 .0 .0 .0 .0 .0 .1)) (not 3 (other .0 .0 .0 .0 .0 .0 .0 .0 .0 .1)) (not 4 (other .0 .0 .0 .0 .0 .0 .0 .0 .1)) (not 5 (other .0 .0 .0 .0 .0 .0 .0 .1)) (not 6 (other .0 .0 .0 .0 .0 .0 .1)) (not 7 (other .0 .0 .0 .0 .0 .1)) (not 8 (other .0 .0 .0 .0 .1)) (not 9 (other .0 .0 .0 .1)) (not 10 (other .0 .0 .1)) (not 11 (other .0 .1)) in
+    let last =
+    last-kind (a .thread) (a .place) (a .value) (a .kind) isKnown (not 1 (other .0 .0 .0 .0 .0 .0 .0 .0 .0 .0 .0 .1))
+    (not 2 (other .0 .0 .0 .0 .0 .0 .0 .0 .0 .0 .1)) (not 3 (other .0 .0 .0 .0 .0 .0 .0 .0 .0 .1))
+    (not 4 (other .0 .0 .0 .0 .0 .0 .0 .0 .1)) (not 5 (other .0 .0 .0 .0 .0 .0 .0 .1))
+    (not 6 (other .0 .0 .0 .0 .0 .0 .1)) (not 7 (other .0 .0 .0 .0 .0 .1)) (not 8 (other .0 .0 .0 .0 .1))
+    (not 9 (other .0 .0 .0 .1)) (not 10 (other .0 .0 .1)) (not 11 (other .0 .1)) in
     absurd (not 12 (other .1) last))
-    (λ refused. rw asked (sym (input-refused (a .machine) (a .thread) (a .place) (a .value) (a .kind) (λ zero. refused .0 .left (j .before .number .ensures ∙ (ap numberOf asked ∙ zero))))))
+    (λ refused. rw asked
+    (sym (input-refused (a .machine) (a .thread) (a .place) (a .value) (a .kind)
+    (λ zero. refused .0 .left (j .before .number .ensures ∙ (ap numberOf asked ∙ zero))))))
     (j .if1 .came)
 
 pub step-spec : {M : Type 1} → statement M

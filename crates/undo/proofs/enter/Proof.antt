@@ -26,7 +26,12 @@ returns-2 : tie.Need-returns-2
 unfolding enteredOf
 returns-2 c =
     let o = c .before .before .before in
-    rw (eq-eqb _ 0 (sym (o .before .number .ensures) ∙ o .if1 .left), c .append .ensures, c .before .before .payload .ensures, c .before .closes .ensures)
+    rw (
+      eq-eqb _ 0 (sym (o .before .number .ensures) ∙ o .if1 .left),
+      c .append .ensures,
+      c .before .before .payload .ensures,
+      c .before .closes .ensures,
+    )
 
 pub enter-spec : {M : Type 1} → statement M
 enter-spec =

@@ -73,10 +73,13 @@ module _ (c : tie.After-event-of Inv-loop μ-loop) where
   at = c .before .before .before .before
 
   turn : (event : Event) → c .event-of .result ≡ event
-      → loggedAmong (seen-at at) (cell-at at) (at .before .live-count .result) ≡ searched event (cell-at at) (At (lsn (self-at at .head .0 + (at .loop .left - 1)))) (loggedAmong (seen-at at) (cell-at at) (at .loop .left - 1))
+      → loggedAmong (seen-at at) (cell-at at) (at .before .live-count .result) ≡
+      searched event (cell-at at) (At (lsn (self-at at .head .0 + (at .loop .left - 1))))
+      (loggedAmong (seen-at at) (cell-at at) (at .loop .left - 1))
   turn event says =
       let live : liveEvent (seen-at at) (at .loop .left - 1) ≡ event =
-      ap (λ slot. eventOf (saidBy (getD (self-at at .cached) slot zeros))) (sym (c .before .before .slot-after .ensures)) ∙ sym (c .event-of .ensures) ∙ says in
+      ap (λ slot. eventOf (saidBy (getD (self-at at .cached) slot zeros))) (sym (c .before .before .slot-after .ensures)) ∙
+      sym (c .event-of .ensures) ∙ says in
       at .loop .inv .1
       ∙ logged-turn (seen-at at) (cell-at at) (at .loop .left) (omega arith)
       ∙ rw live

@@ -6,7 +6,8 @@ use mathlib.Core.Logic.{⊎-elim}
 use borrow.Author.Needs.{needs}
 use Rattle.cache.specs.declared.Cache.{Cache}
 use Rattle.cache.proofs.CacheLaws.{Sized, fenceOf-out}
-use Rattle.cache.proofs.Fences.{FenceAt, fence-same, fence-starts, fence-reads, fence-persisted-long, fence-durable-long, fence-turn, fence-skip, fence-done}
+use Rattle.cache.proofs.Fences.{FenceAt, fence-same, fence-starts, fence-reads, fence-persisted-long, fence-durable-long, fence-turn}
+use Rattle.cache.proofs.Fences.{fence-skip, fence-done}
 use Rattle.cache.proofs.Cache.fence.Statement.{statement}
 use Rattle.cache.proofs.Cache.fence.Tie as tie
 
@@ -73,7 +74,8 @@ loop-again c =
 returns : tie.Need-returns Inv-loop μ-loop
 returns c =
     let l = c .before .loop in
-    ap (λ cached. record { cached = cached; persisted = l .self .persisted; durable = l .self .durable; pending = l .self .pending }) (l .inv .1)
+    ap (λ cached. record { cached = cached; persisted = l .self .persisted; durable = l .self .durable; pending = l .self .pending })
+    (l .inv .1)
     ∙ fence-done (l .inv .0) (omega arith)
 
 returns-2 : tie.Need-returns-2 Inv-loop μ-loop

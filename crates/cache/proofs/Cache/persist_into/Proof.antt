@@ -33,7 +33,8 @@ module _ {cells part image : List ℕ} {cell : ℕ} (at : WrittenTo cells part i
     as-long = length-set image cell (getD cells cell 0) ∙ at .as-long;
     image-is =
         rw (at .image-is)
-        (partly-write (fronted cells part) part 0 (simp (length-append, length-drop) (omega (arith, at))) cell (getD cells cell 0) (omega arith)
+        (partly-write (fronted cells part) part 0 (simp (length-append, length-drop) (omega (arith, at))) cell
+        (getD cells cell 0) (omega arith)
         (List·getD-append cells (drop cellCount part) 0 cell (omega arith)));
   }
 

@@ -15,7 +15,8 @@ returns : tie.Need-returns
 returns c =
     let g = c .before .before .before in
     let a = g .before .before .before .before .args in
-    append-refused (a .t1) (a .payload) (a .closes) (g .append-to .result) (g .append-to .ensures) (λ e. c .if1 .taken (c .before .number .ensures ∙ e))
+    append-refused (a .t1) (a .payload) (a .closes) (g .append-to .result) (g .append-to .ensures)
+    (λ e. c .if1 .taken (c .before .number .ensures ∙ e))
 
 cast-slot : tie.Need-cast-slot
 cast-slot c = search needs
@@ -31,7 +32,8 @@ returns-2 c =
     let n = c .before .before in
     let g = n .before .before in
     let a = g .before .before .before .before .args in
-    append-accepted (a .t1) (a .payload) (a .closes) (g .append-to .result) (g .append-to .ensures) (sym (n .number .ensures) ∙ c .before .if1 .left)
+    append-accepted (a .t1) (a .payload) (a .closes) (g .append-to .result) (g .append-to .ensures)
+    (sym (n .number .ensures) ∙ c .before .if1 .left)
 
 pub append-spec : {M : Type 1} → statement M
 append-spec =

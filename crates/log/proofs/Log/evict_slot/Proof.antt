@@ -15,7 +15,10 @@ unfolding isLiveSlot
 found-live c = sym (c .has-slot .ensures ∙ rw (c .before .live-count .ensures))
 
 low : (c : tie.Then1) → c .before .before .before .before .before .args .slot < 64
-low c = let a = c .before .before .before .before .before .args in slot-of-run-low (a .t1 .head .0) (a .slot) _ (sym (c .before .has-slot .ensures) ∙ c .if1 .taken)
+low c =
+    let a =
+    c .before .before .before .before .before .args in
+    slot-of-run-low (a .t1 .head .0) (a .slot) _ (sym (c .before .has-slot .ensures) ∙ c .if1 .taken)
 
 live-count-requires : tie.Need-live-count-requires
 live-count-requires c κs = search needs

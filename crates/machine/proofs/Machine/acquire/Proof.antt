@@ -3,6 +3,7 @@ use Prim.Native.Nat.{_<_}
 use mathlib.Core.Path.{refl, sym, ap, _∙_}
 use native.Mathlib.Omega.{arith}
 use borrow.Author.Needs.{needs}
+use Rattle.sizes.specs.Sizes.{threadCount, lockCount}
 use Rattle.answer.specs.Answer.{numberOf}
 use Rattle.kinds.specs.Kinds.{ACQUIRE, kindOf}
 use Rattle.kinds.proofs.Inputs.{accepted-thread, accepted-place}
@@ -16,12 +17,13 @@ use Rattle.machine.proofs.Machine.acquire.Tie as tie
 accepted : (c : tie.Then1) → let a = c .before .before .before .args in Accepts 4 (a .thread) (a .lock) 0
 accepted c = ap numberOf (sym (c .before .before .input-answer .ensures)) ∙ sym (c .before .number .ensures) ∙ c .if1 .taken
 
-thread-in : (c : tie.Then1) → c .before .before .before .args .thread < 4
+thread-in : (c : tie.Then1) → c .before .before .before .args .thread < threadCount
 thread-in c = let a = c .before .before .before .args in accepted-thread (a .thread) (a .lock) 0 4 (accepted c)
 
-lock-in : (c : tie.Then1) → c .before .before .before .args .lock < 8
+lock-in : (c : tie.Then1) → c .before .before .before .args .lock < lockCount
 unfolding kindOf
-lock-in c = let a = c .before .before .before .args in accepted-place (a .thread) (a .lock) 0 4 4 ACQUIRE refl refl (accepted c) 8 refl
+lock-in c =
+    let a = c .before .before .before .args in accepted-place (a .thread) (a .lock) 0 4 4 ACQUIRE refl refl (accepted c) lockCount refl
 
 input-answer-requires : tie.Need-input-answer-requires
 input-answer-requires c κs = search needs
@@ -66,43 +68,79 @@ number-requires-2 : tie.Need-number-requires-2
 number-requires-2 c κs = search needs
 
 mul-begun : tie.Need-mul-begun
-mul-begun c = omega (arith, thread-in (c .before .before .before .before .before .before .before .before .before .before), lock-in (c .before .before .before .before .before .before .before .before .before .before))
+mul-begun c =
+    omega (
+      arith,
+      thread-in (c .before .before .before .before .before .before .before .before .before .before),
+      lock-in (c .before .before .before .before .before .before .before .before .before .before),
+    )
 
 element-set-from-begun : tie.Need-element-set-from-begun
-element-set-from-begun c = omega (arith, thread-in (c .before .before .before .before .before .before .before .before .before .before), lock-in (c .before .before .before .before .before .before .before .before .before .before))
+element-set-from-begun c =
+    omega (
+      arith,
+      thread-in (c .before .before .before .before .before .before .before .before .before .before),
+      lock-in (c .before .before .before .before .before .before .before .before .before .before),
+    )
 
 mul-taken : tie.Need-mul-taken
-mul-taken c = omega (arith, thread-in (c .before .before .before .before .before .before .before .before .before .before), lock-in (c .before .before .before .before .before .before .before .before .before .before))
+mul-taken c =
+    omega (
+      arith,
+      thread-in (c .before .before .before .before .before .before .before .before .before .before),
+      lock-in (c .before .before .before .before .before .before .before .before .before .before),
+    )
 
 element-set-from-taken : tie.Need-element-set-from-taken
-element-set-from-taken c = omega (arith, thread-in (c .before .before .before .before .before .before .before .before .before .before), lock-in (c .before .before .before .before .before .before .before .before .before .before))
+element-set-from-taken c =
+    omega (
+      arith,
+      thread-in (c .before .before .before .before .before .before .before .before .before .before),
+      lock-in (c .before .before .before .before .before .before .before .before .before .before),
+    )
 
 mul-joined : tie.Need-mul-joined
-mul-joined c = omega (arith, thread-in (c .before .before .before .before .before .before .before .before .before .before), lock-in (c .before .before .before .before .before .before .before .before .before .before))
+mul-joined c =
+    omega (
+      arith,
+      thread-in (c .before .before .before .before .before .before .before .before .before .before),
+      lock-in (c .before .before .before .before .before .before .before .before .before .before),
+    )
 
 element-set-from-joined : tie.Need-element-set-from-joined
-element-set-from-joined c = omega (arith, thread-in (c .before .before .before .before .before .before .before .before .before .before), lock-in (c .before .before .before .before .before .before .before .before .before .before))
+element-set-from-joined c =
+    omega (
+      arith,
+      thread-in (c .before .before .before .before .before .before .before .before .before .before),
+      lock-in (c .before .before .before .before .before .before .before .before .before .before),
+    )
 
 returns : tie.Need-returns
 returns c =
     let a = c .before .before .before .before .before .before .before .before .before .before .before .before .before .args in
     let done = c .before .before .before .before .before .acquire .ensures in
-    let isZero = ap (λ (left : Handed). numberOf (left .answer)) (sym done) ∙ (sym (c .before .before .before .before .number2 .ensures) ∙ c .before .before .before .if2 .taken) in
-    rw done (acquire-step (a .t1) (a .thread) (a .lock) (accepted (c .before .before .before .before .before .before .before .before .before .before)) .0 isZero)
+    let isZero =
+    ap (λ (left : Handed). numberOf (left .answer)) (sym done) ∙
+    (sym (c .before .before .before .before .number2 .ensures) ∙ c .before .before .before .if2 .taken) in
+    rw done (acquire-step (a .t1) (a .thread) (a .lock)
+    (accepted (c .before .before .before .before .before .before .before .before .before .before)) .0 isZero)
 
 returns-2 : tie.Need-returns-2
 returns-2 c =
     let a = c .before .before .before .before .before .before .before .before .before .before .args in
     let done = c .before .before .acquire .ensures in
     let answer = ap (λ (left : Handed). left .answer) done in
-    rw answer (acquire-step (a .t1) (a .thread) (a .lock) (accepted (c .before .before .before .before .before .before .before)) .1 (λ zero. c .if2 .left (c .before .number2 .ensures ∙ (ap numberOf answer ∙ zero))))
+    rw answer (acquire-step (a .t1) (a .thread) (a .lock)
+    (accepted (c .before .before .before .before .before .before .before)) .1
+    (λ zero. c .if2 .left (c .before .number2 .ensures ∙ (ap numberOf answer ∙ zero))))
 
 -- or refused
 returns-3 : tie.Need-returns-3
 returns-3 c =
     let a = c .before .before .before .args in
     let asked = c .before .before .input-answer .ensures in
-    rw asked (sym (input-refused (a .t1) (a .thread) (a .lock) 0 4 (λ zero. c .if1 .left (c .before .number .ensures ∙ (ap numberOf asked ∙ zero)))))
+    rw asked (sym
+    (input-refused (a .t1) (a .thread) (a .lock) 0 4 (λ zero. c .if1 .left (c .before .number .ensures ∙ (ap numberOf asked ∙ zero)))))
 
 pub acquire-spec : {M : Type 1} → statement M
 acquire-spec =

@@ -5,6 +5,7 @@ use native.Mathlib.Omega.{arith}
 use mathlib.Core.Path.{_≡_, sym, _∙_}
 use lib.ListN.{length}
 use borrow.Author.Tests.{eq-eqb, ne-eqb}
+use Rattle.sizes.specs.Sizes.{threadCount}
 use Rattle.answer.specs.Refusals.{unless}
 use Rattle.log.specs.Stretch.{imageWords}
 use Rattle.machine.specs.Image.{cutOf}
@@ -16,7 +17,7 @@ abbrev Inv-loop : tie.InvT-loop
 Inv-loop image₀ self thread₀ image thread = WrittenTo self image thread
 
 abbrev μ-loop : tie.MeasureT-loop
-μ-loop image₀ self thread₀ image thread = 4 - thread
+μ-loop image₀ self thread₀ image thread = threadCount - thread
 
 returns : tie.Need-returns Inv-loop μ-loop
 unfolding cutOf unless
@@ -29,7 +30,8 @@ loop-holds : tie.Need-loop-holds Inv-loop μ-loop
 loop-holds c =
     let a = c .before .before .before .before .before .before .before .args in
     let long : length (a .image .now) ≡ imageWords = c .before .before .before .before .before .if1 .left in
-    rw (c .before .before .persist-into .ensures) (written-cells (a .t1) (c .before .before .before .before .before .before .before .pre) (search needs) (a .image .now) long)
+    rw (c .before .before .persist-into .ensures)
+    (written-cells (a .t1) (c .before .before .before .before .before .before .before .pre) (search needs) (a .image .now) long)
 
 mul-log : tie.Need-mul-log Inv-loop μ-loop
 mul-log c = search needs
@@ -62,7 +64,10 @@ returns-2 c =
     let start = c .before .before .before .before .before .before .before .before .before in
     let l = c .before .loop in
     let long : length (start .args .image .now) ≡ imageWords = c .before .before .before .before .before .before .before .if1 .left in
-    rw (eq-eqb (length (start .args .image .now)) imageWords long, written-all (start .args .t1) (start .pre) (l .inv .cells) (l .image) (l .thread) (omega arith) (l .inv))
+    rw (
+      eq-eqb (length (start .args .image .now)) imageWords long,
+      written-all (start .args .t1) (start .pre) (l .inv .cells) (l .image) (l .thread) (omega arith) (l .inv),
+    )
 
 pub cut-spec : {M : Type 1} → statement M
 cut-spec =

@@ -26,14 +26,19 @@ returns : tie.Need-returns
 unfolding effect evictEffect
 returns c =
     let a = c .before .before .before .before .before .args in
-    rw (c .evict .ensures, c .before .before .before .before .input-answer .ensures ∙ accepted-zero 0 (a .line) 0 11 (accepted (c .before .before))) (evict-step (a .self) 0 (a .line) (accepted (c .before .before)))
+    rw (
+      c .evict .ensures,
+      c .before .before .before .before .input-answer .ensures ∙ accepted-zero 0 (a .line) 0 11 (accepted (c .before .before)),
+    )
+    (evict-step (a .self) 0 (a .line) (accepted (c .before .before)))
 
 -- or refused
 returns-2 : tie.Need-returns-2
 returns-2 c =
     let a = c .before .before .before .args in
     let asked = c .before .before .input-answer .ensures in
-    rw asked (sym (input-refused (a .self) 0 (a .line) 0 11 (λ zero. c .if1 .left (c .before .number .ensures ∙ (ap numberOf asked ∙ zero)))))
+    rw asked (sym
+    (input-refused (a .self) 0 (a .line) 0 11 (λ zero. c .if1 .left (c .before .number .ensures ∙ (ap numberOf asked ∙ zero)))))
 
 pub evict-spec : {M : Type 1} → statement M
 evict-spec =

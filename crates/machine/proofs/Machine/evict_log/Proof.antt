@@ -3,6 +3,7 @@ use Prim.Native.Nat.{_<_}
 use mathlib.Core.Path.{refl, sym, ap, _∙_}
 use native.Mathlib.Omega.{arith}
 use borrow.Author.Needs.{needs}
+use Rattle.sizes.specs.Sizes.{threadCount}
 use Rattle.answer.specs.Answer.{numberOf}
 use Rattle.kinds.specs.Kinds.{EVICTLOG, kindOf}
 use Rattle.kinds.proofs.Inputs.{accepted-thread, accepted-place}
@@ -16,7 +17,7 @@ use Rattle.machine.proofs.Machine.evict_log.Tie as tie
 accepted : (c : tie.Then1) → let a = c .before .before .before .args in Accepts 12 (a .thread) (a .slot) 0
 accepted c = ap numberOf (sym (c .before .before .input-answer .ensures)) ∙ sym (c .before .number .ensures) ∙ c .if1 .taken
 
-thread-in : (c : tie.Then1) → c .before .before .before .args .thread < 4
+thread-in : (c : tie.Then1) → c .before .before .before .args .thread < threadCount
 thread-in c = let a = c .before .before .before .args in accepted-thread (a .thread) (a .slot) 0 12 (accepted c)
 
 slot-in : (c : tie.Then1) → c .before .before .before .args .slot < 64
@@ -45,13 +46,15 @@ mul-evicted : tie.Need-mul-evicted
 mul-evicted c = omega (arith, thread-in (c .before .before .before .before .before), slot-in (c .before .before .before .before .before))
 
 element-set-from-evicted : tie.Need-element-set-from-evicted
-element-set-from-evicted c = omega (arith, thread-in (c .before .before .before .before .before), slot-in (c .before .before .before .before .before))
+element-set-from-evicted c =
+    omega (arith, thread-in (c .before .before .before .before .before), slot-in (c .before .before .before .before .before))
 
 returns : tie.Need-returns
 returns c =
     let a = c .before .before .before .before .before .before .before .before .args in
     let done = c .before .before .before .evict-slot .ensures in
-    let isZero = ap (λ (left : Changed). numberOf (left .answer)) (sym done) ∙ (sym (c .before .before .number2 .ensures) ∙ c .before .if2 .taken) in
+    let isZero =
+    ap (λ (left : Changed). numberOf (left .answer)) (sym done) ∙ (sym (c .before .before .number2 .ensures) ∙ c .before .if2 .taken) in
     rw done (evict-log-step (a .t1) (a .thread) (a .slot) (accepted (c .before .before .before .before .before)) .0 isZero)
 
 returns-2 : tie.Need-returns-2
@@ -59,14 +62,16 @@ returns-2 c =
     let a = c .before .before .before .before .before .before .before .args in
     let done = c .before .before .evict-slot .ensures in
     let answer = ap (λ (left : Changed). left .answer) done in
-    rw answer (evict-log-step (a .t1) (a .thread) (a .slot) (accepted (c .before .before .before .before)) .1 (λ zero. c .if2 .left (c .before .number2 .ensures ∙ (ap numberOf answer ∙ zero))))
+    rw answer (evict-log-step (a .t1) (a .thread) (a .slot) (accepted (c .before .before .before .before)) .1
+    (λ zero. c .if2 .left (c .before .number2 .ensures ∙ (ap numberOf answer ∙ zero))))
 
 -- or refused
 returns-3 : tie.Need-returns-3
 returns-3 c =
     let a = c .before .before .before .args in
     let asked = c .before .before .input-answer .ensures in
-    rw asked (sym (input-refused (a .t1) (a .thread) (a .slot) 0 12 (λ zero. c .if1 .left (c .before .number .ensures ∙ (ap numberOf asked ∙ zero)))))
+    rw asked (sym
+    (input-refused (a .t1) (a .thread) (a .slot) 0 12 (λ zero. c .if1 .left (c .before .number .ensures ∙ (ap numberOf asked ∙ zero)))))
 
 pub evict-log-spec : {M : Type 1} → statement M
 evict-log-spec =

@@ -3,6 +3,7 @@ use Prim.Native.Nat.{_<_}
 use mathlib.Core.Path.{sym, ap, _∙_}
 use native.Mathlib.Omega.{arith}
 use borrow.Author.Needs.{needs}
+use Rattle.sizes.specs.Sizes.{threadCount}
 use Rattle.answer.specs.Answer.{numberOf}
 use Rattle.kinds.proofs.Inputs.{accepted-zero, accepted-thread}
 use Rattle.machine.specs.Effects.{effect, fenceEffect}
@@ -15,7 +16,7 @@ use Rattle.machine.proofs.Machine.fence.Tie as tie
 accepted : (c : tie.Then1) → let a = c .before .before .before .args in Accepts 9 (a .thread) 0 0
 accepted c = ap numberOf (sym (c .before .before .input-answer .ensures)) ∙ sym (c .before .number .ensures) ∙ c .if1 .taken
 
-thread-in : (c : tie.Then1) → c .before .before .before .args .thread < 4
+thread-in : (c : tie.Then1) → c .before .before .before .args .thread < threadCount
 thread-in c = let a = c .before .before .before .args in accepted-thread (a .thread) 0 0 9 (accepted c)
 
 input-answer-requires : tie.Need-input-answer-requires
@@ -46,14 +47,21 @@ returns : tie.Need-returns
 unfolding effect fenceEffect
 returns c =
     let a = c .before .before .before .before .before .before .before .args in
-    rw (c .before .fence .ensures, c .fence2 .ensures, c .before .before .before .before .before .before .input-answer .ensures ∙ accepted-zero (a .thread) 0 0 9 (accepted (c .before .before .before .before))) (fence-step (a .t1) (a .thread) 0 (accepted (c .before .before .before .before)))
+    rw (
+      c .before .fence .ensures,
+      c .fence2 .ensures,
+      c .before .before .before .before .before .before .input-answer .ensures ∙
+          accepted-zero (a .thread) 0 0 9 (accepted (c .before .before .before .before)),
+    )
+    (fence-step (a .t1) (a .thread) 0 (accepted (c .before .before .before .before)))
 
 -- or refused
 returns-2 : tie.Need-returns-2
 returns-2 c =
     let a = c .before .before .before .args in
     let asked = c .before .before .input-answer .ensures in
-    rw asked (sym (input-refused (a .t1) (a .thread) 0 0 9 (λ zero. c .if1 .left (c .before .number .ensures ∙ (ap numberOf asked ∙ zero)))))
+    rw asked (sym
+    (input-refused (a .t1) (a .thread) 0 0 9 (λ zero. c .if1 .left (c .before .number .ensures ∙ (ap numberOf asked ∙ zero)))))
 
 pub fence-spec : {M : Type 1} → statement M
 fence-spec =

@@ -26,14 +26,19 @@ returns : tie.Need-returns
 unfolding effect flushEffect
 returns c =
     let a = c .before .before .before .before .before .args in
-    rw (c .flush .ensures, c .before .before .before .before .input-answer .ensures ∙ accepted-zero (a .thread) (a .line) 0 7 (accepted (c .before .before))) (flush-step (a .self) (a .thread) (a .line) (accepted (c .before .before)))
+    rw (
+      c .flush .ensures,
+      c .before .before .before .before .input-answer .ensures ∙ accepted-zero (a .thread) (a .line) 0 7 (accepted (c .before .before)),
+    )
+    (flush-step (a .self) (a .thread) (a .line) (accepted (c .before .before)))
 
 -- or refused
 returns-2 : tie.Need-returns-2
 returns-2 c =
     let a = c .before .before .before .args in
     let asked = c .before .before .input-answer .ensures in
-    rw asked (sym (input-refused (a .self) (a .thread) (a .line) 0 7 (λ zero. c .if1 .left (c .before .number .ensures ∙ (ap numberOf asked ∙ zero)))))
+    rw asked (sym
+    (input-refused (a .self) (a .thread) (a .line) 0 7 (λ zero. c .if1 .left (c .before .number .ensures ∙ (ap numberOf asked ∙ zero)))))
 
 pub flush-spec : {M : Type 1} → statement M
 flush-spec =

@@ -1,4 +1,5 @@
--- `machine::Machine::fresh` meets its contract: the cache and the logs are as their own crates make them, and a thread's clock knows its own start.
+-- `machine::Machine::fresh` meets its contract: the cache and the logs are as their own crates make them, and a thread's clock knows its
+-- own start.
 use borrow.Author.Needs.{needs}
 use Rattle.accesses.specs.Clocks.{raiseOf}
 use Rattle.machine.specs.Holds.{freshMachine}
@@ -28,7 +29,14 @@ unfolding freshMachine raiseOf
 returns c =
     let first = c .before .before .before in
     let logs = first .before in
-    rw (c .raise4 .ensures, c .before .raise3 .ensures, c .before .before .raise2 .ensures, first .raise .ensures, logs .new2 .ensures, logs .before .new .ensures)
+    rw (
+      c .raise4 .ensures,
+      c .before .raise3 .ensures,
+      c .before .before .raise2 .ensures,
+      first .raise .ensures,
+      logs .new2 .ensures,
+      logs .before .new .ensures,
+    )
 
 pub fresh-spec : {M : Type 1} → statement M
 fresh-spec =

@@ -3,6 +3,7 @@ use Prim.Native.Nat.{_<_}
 use mathlib.Core.Path.{refl, sym, ap, _∙_}
 use native.Mathlib.Omega.{arith}
 use borrow.Author.Needs.{needs}
+use Rattle.sizes.specs.Sizes.{threadCount}
 use Rattle.answer.specs.Answer.{numberOf}
 use Rattle.kinds.specs.Kinds.{LOAD, kindOf}
 use Rattle.kinds.proofs.Inputs.{accepted-thread, accepted-place}
@@ -16,7 +17,7 @@ use Rattle.machine.proofs.Machine.load.Tie as tie
 accepted : (c : tie.Then1) → let a = c .before .before .before .args in Accepts 1 (a .thread) (a .cell) 0
 accepted c = ap numberOf (sym (c .before .before .input-answer .ensures)) ∙ sym (c .before .number .ensures) ∙ c .if1 .taken
 
-thread-in : (c : tie.Then1) → c .before .before .before .args .thread < 4
+thread-in : (c : tie.Then1) → c .before .before .before .args .thread < threadCount
 thread-in c = let a = c .before .before .before .args in accepted-thread (a .thread) (a .cell) 0 1 (accepted c)
 
 cell-in : (c : tie.Then1) → c .before .before .before .args .cell < 128
@@ -57,22 +58,27 @@ returns : tie.Need-returns
 returns c =
     let a = c .before .before .before .before .before .before .before .before .before .before .before .args in
     let done = c .before .before .before .load .ensures in
-    let isZero = ap (λ (left : Loaded). numberOf (left .answer)) (sym done) ∙ (sym (c .before .before .number2 .ensures) ∙ c .before .if2 .taken) in
-    rw done (load-step (a .t1) (a .thread) (a .cell) (accepted (c .before .before .before .before .before .before .before .before)) .0 isZero)
+    let isZero =
+    ap (λ (left : Loaded). numberOf (left .answer)) (sym done) ∙ (sym (c .before .before .number2 .ensures) ∙ c .before .if2 .taken) in
+    rw done (load-step (a .t1) (a .thread) (a .cell)
+    (accepted (c .before .before .before .before .before .before .before .before)) .0 isZero)
 
 returns-2 : tie.Need-returns-2
 returns-2 c =
     let a = c .before .before .before .before .before .before .before .before .before .before .args in
     let done = c .before .before .load .ensures in
     let answer = ap (λ (left : Loaded). left .answer) done in
-    rw answer (load-step (a .t1) (a .thread) (a .cell) (accepted (c .before .before .before .before .before .before .before)) .1 (λ zero. c .if2 .left (c .before .number2 .ensures ∙ (ap numberOf answer ∙ zero))))
+    rw answer (load-step (a .t1) (a .thread) (a .cell)
+    (accepted (c .before .before .before .before .before .before .before)) .1
+    (λ zero. c .if2 .left (c .before .number2 .ensures ∙ (ap numberOf answer ∙ zero))))
 
 -- or refused
 returns-3 : tie.Need-returns-3
 returns-3 c =
     let a = c .before .before .before .args in
     let asked = c .before .before .input-answer .ensures in
-    rw asked (sym (input-refused (a .t1) (a .thread) (a .cell) 0 1 (λ zero. c .if1 .left (c .before .number .ensures ∙ (ap numberOf asked ∙ zero)))))
+    rw asked (sym
+    (input-refused (a .t1) (a .thread) (a .cell) 0 1 (λ zero. c .if1 .left (c .before .number .ensures ∙ (ap numberOf asked ∙ zero)))))
 
 pub load-spec : {M : Type 1} → statement M
 load-spec =

@@ -3,6 +3,7 @@ use Prim.Native.Nat.{_<_}
 use mathlib.Core.Path.{refl, sym, ap, _∙_}
 use native.Mathlib.Omega.{arith}
 use borrow.Author.Needs.{needs}
+use Rattle.sizes.specs.Sizes.{threadCount}
 use Rattle.answer.specs.Answer.{numberOf}
 use Rattle.kinds.specs.Kinds.{LOG, kindOf}
 use Rattle.kinds.proofs.Inputs.{accepted-thread, accepted-place}
@@ -16,7 +17,7 @@ use Rattle.machine.proofs.Machine.log.Tie as tie
 accepted : (c : tie.Then1) → let a = c .before .before .before .args in Accepts 2 (a .thread) (a .cell) 0
 accepted c = ap numberOf (sym (c .before .before .input-answer .ensures)) ∙ sym (c .before .number .ensures) ∙ c .if1 .taken
 
-thread-in : (c : tie.Then1) → c .before .before .before .args .thread < 4
+thread-in : (c : tie.Then1) → c .before .before .before .args .thread < threadCount
 thread-in c = let a = c .before .before .before .args in accepted-thread (a .thread) (a .cell) 0 2 (accepted c)
 
 cell-in : (c : tie.Then1) → c .before .before .before .args .cell < 128
@@ -51,7 +52,8 @@ cast-log-cell : tie.Need-cast-log-cell
 cast-log-cell c = omega (arith, thread-in (c .before .before .before .before .before), cell-in (c .before .before .before .before .before))
 
 cast-log-cell-2 : tie.Need-cast-log-cell-2
-cast-log-cell-2 c = omega (arith, thread-in (c .before .before .before .before .before), cell-in (c .before .before .before .before .before))
+cast-log-cell-2 c =
+    omega (arith, thread-in (c .before .before .before .before .before), cell-in (c .before .before .before .before .before))
 
 log-cell-requires : tie.Need-log-cell-requires
 log-cell-requires c κs = search needs
@@ -60,31 +62,47 @@ number-requires-2 : tie.Need-number-requires-2
 number-requires-2 c κs = search needs
 
 mul-grown : tie.Need-mul-grown
-mul-grown c = omega (arith, thread-in (c .before .before .before .before .before .before .before .before .before .before), cell-in (c .before .before .before .before .before .before .before .before .before .before))
+mul-grown c =
+    omega (
+      arith,
+      thread-in (c .before .before .before .before .before .before .before .before .before .before),
+      cell-in (c .before .before .before .before .before .before .before .before .before .before),
+    )
 
 element-set-from-grown : tie.Need-element-set-from-grown
-element-set-from-grown c = omega (arith, thread-in (c .before .before .before .before .before .before .before .before .before .before), cell-in (c .before .before .before .before .before .before .before .before .before .before))
+element-set-from-grown c =
+    omega (
+      arith,
+      thread-in (c .before .before .before .before .before .before .before .before .before .before),
+      cell-in (c .before .before .before .before .before .before .before .before .before .before),
+    )
 
 returns : tie.Need-returns
 returns c =
     let a = c .before .before .before .before .before .before .before .before .before .before .before .before .before .args in
     let done = c .before .before .before .before .log-cell .ensures in
-    let isZero = ap (λ (left : Logged). numberOf (left .answer)) (sym done) ∙ (sym (c .before .before .before .number2 .ensures) ∙ c .before .before .if2 .taken) in
-    rw done (log-step (a .t1) (a .thread) (a .cell) (accepted (c .before .before .before .before .before .before .before .before .before .before)) .0 isZero)
+    let isZero =
+    ap (λ (left : Logged). numberOf (left .answer)) (sym done) ∙
+    (sym (c .before .before .before .number2 .ensures) ∙ c .before .before .if2 .taken) in
+    rw done (log-step (a .t1) (a .thread) (a .cell)
+    (accepted (c .before .before .before .before .before .before .before .before .before .before)) .0 isZero)
 
 returns-2 : tie.Need-returns-2
 returns-2 c =
     let a = c .before .before .before .before .before .before .before .before .before .before .before .args in
     let done = c .before .before .log-cell .ensures in
     let answer = ap (λ (left : Logged). left .answer) done in
-    rw answer (log-step (a .t1) (a .thread) (a .cell) (accepted (c .before .before .before .before .before .before .before .before)) .1 (λ zero. c .if2 .left (c .before .number2 .ensures ∙ (ap numberOf answer ∙ zero))))
+    rw answer (log-step (a .t1) (a .thread) (a .cell)
+    (accepted (c .before .before .before .before .before .before .before .before)) .1
+    (λ zero. c .if2 .left (c .before .number2 .ensures ∙ (ap numberOf answer ∙ zero))))
 
 -- or refused
 returns-3 : tie.Need-returns-3
 returns-3 c =
     let a = c .before .before .before .args in
     let asked = c .before .before .input-answer .ensures in
-    rw asked (sym (input-refused (a .t1) (a .thread) (a .cell) 0 2 (λ zero. c .if1 .left (c .before .number .ensures ∙ (ap numberOf asked ∙ zero)))))
+    rw asked (sym
+    (input-refused (a .t1) (a .thread) (a .cell) 0 2 (λ zero. c .if1 .left (c .before .number .ensures ∙ (ap numberOf asked ∙ zero)))))
 
 pub log-spec : {M : Type 1} → statement M
 log-spec =

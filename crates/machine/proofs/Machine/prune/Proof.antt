@@ -3,9 +3,10 @@ use Prim.Native.Nat.{_<_}
 use mathlib.Core.Path.{sym, ap, _∙_}
 use native.Mathlib.Omega.{arith}
 use borrow.Author.Needs.{needs}
+use Rattle.sizes.specs.Sizes.{threadCount}
 use Rattle.answer.specs.Answer.{numberOf}
 use Rattle.kinds.proofs.Inputs.{accepted-thread}
-use Rattle.locks.specs.declared.Pruned.{Pruned}
+use Rattle.prune.specs.declared.Pruned.{Pruned}
 use Rattle.machine.proofs.Counts.{reached-counted}
 use Rattle.machine.proofs.Inputs.{input-refused}
 use Rattle.machine.proofs.PartSteps.{Accepts, prune-step}
@@ -16,7 +17,7 @@ use Rattle.machine.proofs.Machine.prune.Tie as tie
 accepted : (c : tie.Then1) → let a = c .before .before .before .args in Accepts 10 (a .thread) 0 0
 accepted c = ap numberOf (sym (c .before .before .input-answer .ensures)) ∙ sym (c .before .number .ensures) ∙ c .if1 .taken
 
-thread-in : (c : tie.Then1) → c .before .before .before .args .thread < 4
+thread-in : (c : tie.Then1) → c .before .before .before .args .thread < threadCount
 thread-in c = let a = c .before .before .before .args in accepted-thread (a .thread) 0 0 10 (accepted c)
 
 input-answer-requires : tie.Need-input-answer-requires
@@ -47,22 +48,30 @@ returns : tie.Need-returns
 returns c =
     let a = c .before .before .before .before .before .before .before .before .before .before .before .args in
     let done = c .before .before .before .before .prune .ensures in
-    let isZero = ap (λ (left : Pruned). numberOf (left .answer)) (sym done) ∙ (sym (c .before .before .before .number2 .ensures) ∙ c .before .before .if2 .taken) in
-    rw done (prune-step (a .t1) (reached-counted (a .t1) (c .before .before .before .before .before .before .before .before .before .before .before .pre)) (a .thread) 0 (accepted (c .before .before .before .before .before .before .before .before)) .0 isZero)
+    let isZero =
+    ap (λ (left : Pruned). numberOf (left .answer)) (sym done) ∙
+    (sym (c .before .before .before .number2 .ensures) ∙ c .before .before .if2 .taken) in
+    rw done (prune-step (a .t1)
+    (reached-counted (a .t1) (c .before .before .before .before .before .before .before .before .before .before .before .pre))
+    (a .thread) 0 (accepted (c .before .before .before .before .before .before .before .before)) .0 isZero)
 
 returns-2 : tie.Need-returns-2
 returns-2 c =
     let a = c .before .before .before .before .before .before .before .before .before .args in
     let done = c .before .before .prune .ensures in
     let answer = ap (λ (left : Pruned). left .answer) done in
-    rw answer (prune-step (a .t1) (reached-counted (a .t1) (c .before .before .before .before .before .before .before .before .before .pre)) (a .thread) 0 (accepted (c .before .before .before .before .before .before)) .1 (λ zero. c .if2 .left (c .before .number2 .ensures ∙ (ap numberOf answer ∙ zero))))
+    rw answer (prune-step (a .t1)
+    (reached-counted (a .t1) (c .before .before .before .before .before .before .before .before .before .pre))
+    (a .thread) 0 (accepted (c .before .before .before .before .before .before)) .1
+    (λ zero. c .if2 .left (c .before .number2 .ensures ∙ (ap numberOf answer ∙ zero))))
 
 -- or refused
 returns-3 : tie.Need-returns-3
 returns-3 c =
     let a = c .before .before .before .args in
     let asked = c .before .before .input-answer .ensures in
-    rw asked (sym (input-refused (a .t1) (a .thread) 0 0 10 (λ zero. c .if1 .left (c .before .number .ensures ∙ (ap numberOf asked ∙ zero)))))
+    rw asked (sym
+    (input-refused (a .t1) (a .thread) 0 0 10 (λ zero. c .if1 .left (c .before .number .ensures ∙ (ap numberOf asked ∙ zero)))))
 
 pub prune-spec : {M : Type 1} → statement M
 prune-spec =

@@ -3,6 +3,7 @@ use Prim.Native.Nat.{_<_}
 use mathlib.Core.Path.{refl, sym, ap, _∙_}
 use native.Mathlib.Omega.{arith}
 use borrow.Author.Needs.{needs}
+use Rattle.sizes.specs.Sizes.{threadCount, lockCount}
 use Rattle.answer.specs.Answer.{numberOf}
 use Rattle.kinds.specs.Kinds.{RELEASE, kindOf}
 use Rattle.kinds.proofs.Inputs.{accepted-thread, accepted-place}
@@ -17,12 +18,13 @@ use Rattle.machine.proofs.Machine.release.Tie as tie
 accepted : (c : tie.Then1) → let a = c .before .before .before .args in Accepts 6 (a .thread) (a .lock) 0
 accepted c = ap numberOf (sym (c .before .before .input-answer .ensures)) ∙ sym (c .before .number .ensures) ∙ c .if1 .taken
 
-thread-in : (c : tie.Then1) → c .before .before .before .args .thread < 4
+thread-in : (c : tie.Then1) → c .before .before .before .args .thread < threadCount
 thread-in c = let a = c .before .before .before .args in accepted-thread (a .thread) (a .lock) 0 6 (accepted c)
 
-lock-in : (c : tie.Then1) → c .before .before .before .args .lock < 8
+lock-in : (c : tie.Then1) → c .before .before .before .args .lock < lockCount
 unfolding kindOf
-lock-in c = let a = c .before .before .before .args in accepted-place (a .thread) (a .lock) 0 6 6 RELEASE refl refl (accepted c) 8 refl
+lock-in c =
+    let a = c .before .before .before .args in accepted-place (a .thread) (a .lock) 0 6 6 RELEASE refl refl (accepted c) lockCount refl
 
 input-answer-requires : tie.Need-input-answer-requires
 input-answer-requires c κs = search needs
@@ -61,49 +63,98 @@ number-requires-2 : tie.Need-number-requires-2
 number-requires-2 c κs = search needs
 
 mul-ended : tie.Need-mul-ended
-mul-ended c = omega (arith, thread-in (c .before .before .before .before .before .before .before .before .before), lock-in (c .before .before .before .before .before .before .before .before .before))
+mul-ended c =
+    omega (
+      arith,
+      thread-in (c .before .before .before .before .before .before .before .before .before),
+      lock-in (c .before .before .before .before .before .before .before .before .before),
+    )
 
 element-set-from-ended : tie.Need-element-set-from-ended
-element-set-from-ended c = omega (arith, thread-in (c .before .before .before .before .before .before .before .before .before), lock-in (c .before .before .before .before .before .before .before .before .before))
+element-set-from-ended c =
+    omega (
+      arith,
+      thread-in (c .before .before .before .before .before .before .before .before .before),
+      lock-in (c .before .before .before .before .before .before .before .before .before),
+    )
 
 mul-freed : tie.Need-mul-freed
-mul-freed c = omega (arith, thread-in (c .before .before .before .before .before .before .before .before .before), lock-in (c .before .before .before .before .before .before .before .before .before))
+mul-freed c =
+    omega (
+      arith,
+      thread-in (c .before .before .before .before .before .before .before .before .before),
+      lock-in (c .before .before .before .before .before .before .before .before .before),
+    )
 
 element-set-from-freed : tie.Need-element-set-from-freed
-element-set-from-freed c = omega (arith, thread-in (c .before .before .before .before .before .before .before .before .before), lock-in (c .before .before .before .before .before .before .before .before .before))
+element-set-from-freed c =
+    omega (
+      arith,
+      thread-in (c .before .before .before .before .before .before .before .before .before),
+      lock-in (c .before .before .before .before .before .before .before .before .before),
+    )
 
 mul-clock-2 : tie.Need-mul-clock-2
-mul-clock-2 c = omega (arith, thread-in (c .before .before .before .before .before .before .before .before .before), lock-in (c .before .before .before .before .before .before .before .before .before))
+mul-clock-2 c =
+    omega (
+      arith,
+      thread-in (c .before .before .before .before .before .before .before .before .before),
+      lock-in (c .before .before .before .before .before .before .before .before .before),
+    )
 
 element-set-from-clock : tie.Need-element-set-from-clock
-element-set-from-clock c = omega (arith, thread-in (c .before .before .before .before .before .before .before .before .before), lock-in (c .before .before .before .before .before .before .before .before .before))
+element-set-from-clock c =
+    omega (
+      arith,
+      thread-in (c .before .before .before .before .before .before .before .before .before),
+      lock-in (c .before .before .before .before .before .before .before .before .before),
+    )
 
 mul-raised : tie.Need-mul-raised
-mul-raised c = omega (arith, thread-in (c .before .before .before .before .before .before .before .before .before), lock-in (c .before .before .before .before .before .before .before .before .before))
+mul-raised c =
+    omega (
+      arith,
+      thread-in (c .before .before .before .before .before .before .before .before .before),
+      lock-in (c .before .before .before .before .before .before .before .before .before),
+    )
 
 element-set-from-raised : tie.Need-element-set-from-raised
-element-set-from-raised c = omega (arith, thread-in (c .before .before .before .before .before .before .before .before .before), lock-in (c .before .before .before .before .before .before .before .before .before))
+element-set-from-raised c =
+    omega (
+      arith,
+      thread-in (c .before .before .before .before .before .before .before .before .before),
+      lock-in (c .before .before .before .before .before .before .before .before .before),
+    )
 
 returns : tie.Need-returns
 returns c =
     let a = c .before .before .before .before .before .before .before .before .before .before .before .before .args in
     let done = c .before .before .before .before .before .release .ensures in
-    let isZero = ap (λ (left : Handed). numberOf (left .answer)) (sym done) ∙ (sym (c .before .before .before .before .number2 .ensures) ∙ c .before .before .before .if2 .taken) in
-    rw done (release-step (a .t1) (reached-counted (a .t1) (c .before .before .before .before .before .before .before .before .before .before .before .before .pre)) (a .thread) (a .lock) (accepted (c .before .before .before .before .before .before .before .before .before)) .0 isZero)
+    let isZero =
+    ap (λ (left : Handed). numberOf (left .answer)) (sym done) ∙
+    (sym (c .before .before .before .before .number2 .ensures) ∙ c .before .before .before .if2 .taken) in
+    rw done (release-step (a .t1)
+    (reached-counted (a .t1) (c .before .before .before .before .before .before .before .before .before .before .before .before .pre))
+    (a .thread) (a .lock)
+    (accepted (c .before .before .before .before .before .before .before .before .before)) .0 isZero)
 
 returns-2 : tie.Need-returns-2
 returns-2 c =
     let a = c .before .before .before .before .before .before .before .before .before .args in
     let done = c .before .before .release .ensures in
     let answer = ap (λ (left : Handed). left .answer) done in
-    rw answer (release-step (a .t1) (reached-counted (a .t1) (c .before .before .before .before .before .before .before .before .before .pre)) (a .thread) (a .lock) (accepted (c .before .before .before .before .before .before)) .1 (λ zero. c .if2 .left (c .before .number2 .ensures ∙ (ap numberOf answer ∙ zero))))
+    rw answer (release-step (a .t1)
+    (reached-counted (a .t1) (c .before .before .before .before .before .before .before .before .before .pre))
+    (a .thread) (a .lock) (accepted (c .before .before .before .before .before .before)) .1
+    (λ zero. c .if2 .left (c .before .number2 .ensures ∙ (ap numberOf answer ∙ zero))))
 
 -- or refused
 returns-3 : tie.Need-returns-3
 returns-3 c =
     let a = c .before .before .before .args in
     let asked = c .before .before .input-answer .ensures in
-    rw asked (sym (input-refused (a .t1) (a .thread) (a .lock) 0 6 (λ zero. c .if1 .left (c .before .number .ensures ∙ (ap numberOf asked ∙ zero)))))
+    rw asked (sym
+    (input-refused (a .t1) (a .thread) (a .lock) 0 6 (λ zero. c .if1 .left (c .before .number .ensures ∙ (ap numberOf asked ∙ zero)))))
 
 pub release-spec : {M : Type 1} → statement M
 release-spec =

@@ -3,6 +3,7 @@ use Prim.Native.Nat.{_<_}
 use mathlib.Core.Path.{refl, sym, ap, _∙_}
 use native.Mathlib.Omega.{arith}
 use borrow.Author.Needs.{needs}
+use Rattle.sizes.specs.Sizes.{threadCount}
 use Rattle.answer.specs.Answer.{numberOf}
 use Rattle.answer.proofs.RefusalLaws.{none-holds}
 use Rattle.undo.specs.Regions.{storeTestsOn}
@@ -19,12 +20,13 @@ use Rattle.machine.proofs.Machine.store.Tie as tie
 accepted : (c : tie.Then1) → let a = c .before .before .before .args in Accepts 3 (a .thread) (a .cell) (a .value)
 accepted c = ap numberOf (sym (c .before .before .input-answer .ensures)) ∙ sym (c .before .number .ensures) ∙ c .if1 .taken
 
-thread-in : (c : tie.Then1) → c .before .before .before .args .thread < 4
+thread-in : (c : tie.Then1) → c .before .before .before .args .thread < threadCount
 thread-in c = let a = c .before .before .before .args in accepted-thread (a .thread) (a .cell) (a .value) 3 (accepted c)
 
 cell-in : (c : tie.Then1) → c .before .before .before .args .cell < 128
 unfolding kindOf
-cell-in c = let a = c .before .before .before .args in accepted-place (a .thread) (a .cell) (a .value) 3 3 STORE refl refl (accepted c) 128 refl
+cell-in c =
+    let a = c .before .before .before .args in accepted-place (a .thread) (a .cell) (a .value) 3 3 STORE refl refl (accepted c) 128 refl
 
 input-answer-requires : tie.Need-input-answer-requires
 input-answer-requires c κs = search needs
@@ -54,20 +56,24 @@ returns c =
     let asked = c .before .before .before .before .store-answer .ensures in
     let isZero = ap numberOf (sym asked) ∙ (sym (c .before .before .before .number2 .ensures) ∙ c .before .before .if2 .taken) in
     let isAsked = none-holds (storeTestsOn (logOf (a .t1) (a .thread)) (a .cell)) (refl, (refl, (refl, tt))) isZero .0 in
-    rw (asked, isAsked, c .store .ensures) (store-step (a .t1) (a .thread) (a .cell) (a .value) (accepted (c .before .before .before .before .before .before)) .0 isZero)
+    rw (asked, isAsked, c .store .ensures)
+    (store-step (a .t1) (a .thread) (a .cell) (a .value) (accepted (c .before .before .before .before .before .before)) .0 isZero)
 
 returns-2 : tie.Need-returns-2
 returns-2 c =
     let a = c .before .before .before .before .before .before .before .args in
     let asked = c .before .before .store-answer .ensures in
-    rw asked (store-step (a .t1) (a .thread) (a .cell) (a .value) (accepted (c .before .before .before .before)) .1 (λ zero. c .if2 .left (c .before .number2 .ensures ∙ (ap numberOf asked ∙ zero))))
+    rw asked (store-step (a .t1) (a .thread) (a .cell) (a .value) (accepted (c .before .before .before .before)) .1
+    (λ zero. c .if2 .left (c .before .number2 .ensures ∙ (ap numberOf asked ∙ zero))))
 
 -- or refused
 returns-3 : tie.Need-returns-3
 returns-3 c =
     let a = c .before .before .before .args in
     let asked = c .before .before .input-answer .ensures in
-    rw asked (sym (input-refused (a .t1) (a .thread) (a .cell) (a .value) 3 (λ zero. c .if1 .left (c .before .number .ensures ∙ (ap numberOf asked ∙ zero)))))
+    rw asked (sym
+    (input-refused (a .t1) (a .thread) (a .cell) (a .value) 3
+    (λ zero. c .if1 .left (c .before .number .ensures ∙ (ap numberOf asked ∙ zero)))))
 
 pub store-spec : {M : Type 1} → statement M
 store-spec =

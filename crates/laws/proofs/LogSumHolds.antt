@@ -1,0 +1,222 @@
+-- The log's sum holds: each step changes the number of live entries by those that it appends and those that it frees.
+use Prim.Native.Nat.{ℕ, zero, suc, _+_, _-_, _<_, _≤_}
+use mathlib.Core.Path.{_≡_, refl}
+use mathlib.Core.Bool.{Bool, true, false, cond, _&&_, _||_}
+use mathlib.Core.List.{List, [], _∷_, map}
+use native.Mathlib.Omega.{arith}
+use lib.Dec.{eqb}
+use lib.ListN.{length, getD, set}
+use borrow.Author.Tests.{eqb-false}
+use Rattle.sizes.specs.Sizes.{threadCount}
+use Rattle.answer.specs.Answer.{isAccepted, valueOf}
+use Rattle.answer.specs.declared.Answer.{Answer}
+use Rattle.answer.proofs.Beside.{beside-a-refusal}
+use Rattle.answer.proofs.ListLaws.{cond-same}
+use Rattle.answer.proofs.RefusalLaws.{AllFail}
+use Rattle.cache.specs.Cache.{cachedAt}
+use Rattle.log.specs.Entries.{liveCount, flushLogOf, fenceLogOf, evictSlotOf, dropOf, appendOf}
+use Rattle.undo.specs.Events.{liveEvent, enterOf, endReleaseOf}
+use Rattle.undo.specs.declared.Event.the-variants.{Store, Acquire, Release}
+use Rattle.undo.specs.Regions.{isAcquire, isRelease, goesOn, oldestRegion}
+use Rattle.ring.specs.Ring.{grownTail, flushedTail, fencedTail, releasedTail}
+use Rattle.log.specs.declared.Log.{Log}
+use Rattle.machine.specs.Effects.{loadEffect, logEffect, storeEffect, acquireEffect, logReleaseEffect, releaseEffect, flushEffect}
+use Rattle.machine.specs.Effects.{flushLogEffect, fenceEffect, pruneEffect, evictEffect, evictLogEffect, effect}
+use Rattle.kinds.specs.Kinds.{Kind, LOAD, LOG, STORE, ACQUIRE, LOGREL, RELEASE, FLUSH, FLUSHLOG, FENCE, PRUNE, EVICT, EVICTLOG}
+use Rattle.machine.specs.Holds.{noLog, logOf, lockOf}
+use Rattle.machine.specs.Runs.{Step, stepWith, after}
+use Rattle.machine.specs.declared.Machine.{Machine}
+use Rattle.machine.specs.declared.Stepped.{Stepped}
+use Rattle.machine.proofs.Beginnings.{machineWith, AllIdle, each-log, freshLogs, fresh-all, on-start}
+use Rattle.machine.proofs.Sizes.{Sized, effect-sized, begin-sized}
+use Rattle.machine.proofs.StepLaws.{testsOf, step-cases}
+use Rattle.laws.specs.LogSum.{sum, freedBy, appendedBy, liveIn, LogSum}
+use Rattle.atomicity.proofs.HistoryRuns.{kindNumber, kind-number, thread-in-range}
+use Rattle.answer.proofs.ListCases.{set-cases}
+use Rattle.atomicity.proofs.PruneKeeps.{prune-logs}
+
+-- one element changed: the old one's number goes, the new one's comes
+sum-set : {A : Type 0} (number : A → ℕ) (list : List A) (place : ℕ) (value default : A) → place < length list →
+    sum (map number (set list place value)) + number (getD list place default) ≡ sum (map number list) + number value
+unfolding sum
+sum-set number [] place value default inRange = absurd (omega arith)
+sum-set number (first ∷ list) zero value default inRange = omega arith
+sum-set number (first ∷ list) (suc place) value default inRange =
+    let rest = sum-set number list place value default (omega arith) in
+    omega arith
+
+-- numbers that are all 0
+sum-none : {A : Type 0} (number : A → ℕ) (list : List A) (default : A) →
+    ((place : ℕ) → number (getD list place default) ≡ 0) → sum (map number list) ≡ 0
+unfolding sum
+sum-none number [] default none = refl
+sum-none number (first ∷ list) default none =
+    omega (arith, none 0, sum-none number list default (λ place. none (suc place)))
+
+-- of so many entries at most as many go on a region
+goes-most : (log : Log) (index count : ℕ) → goesOn log index count ≤ count
+unfolding goesOn
+goes-most log index zero = omega arith
+goes-most log index (suc count) =
+    by-tests (isAcquire (liveEvent log index)) (isRelease (liveEvent log index)) (goes-most log (suc index) count)
+  where
+    by-tests : (acquires releases : Bool) {later : ℕ} → later ≤ count → cond acquires 0 (cond releases 1 (suc later)) ≤ suc count
+    by-tests true releases most = omega arith
+    by-tests false true most = omega arith
+    by-tests false false most = omega arith
+
+-- PRUNE frees live entries only, whatever the log holds
+oldest-most : (log : Log) → oldestRegion log ≤ liveCount log
+unfolding oldestRegion
+oldest-most log = by-tests (eqb (liveCount log) 0) refl (isRelease (liveEvent log 0)) (goes-most log 1 (liveCount log - 1))
+  where
+    by-tests : (isNone : Bool) → eqb (liveCount log) 0 ≡ isNone → (releases : Bool) {later : ℕ} →
+        later ≤ liveCount log - 1 → cond isNone 0 (cond releases 1 (suc later)) ≤ liveCount log
+    by-tests true told releases most = omega arith
+    by-tests false told true most = omega (arith, eqb-false (liveCount log) 0 told)
+    by-tests false told false most = omega (arith, eqb-false (liveCount log) 0 told)
+
+-- no head is past the next LSN, so that a difference of the two counts the live entries
+record Headed (machine : Machine) : Type 0 where
+  sized : Sized machine
+  headNext : (thread : ℕ) → logOf machine thread .head .0 ≤ logOf machine thread .tail .next .0
+
+-- how many entries a step of this kind with this answer frees
+abbrev freed : ℕ → Answer → ℕ
+freed kind answer = cond (eqb kind 10) (valueOf answer) 0
+
+-- how many it appends
+abbrev appended : ℕ → Answer → ℕ
+appended kind answer = cond (isAccepted answer && (eqb kind 2 || eqb kind 4 || eqb kind 5)) 1 0
+
+-- what a step of this kind leads to: what it freed and what is live now is what it appended and what was live
+record Balanced (machine : Machine) (kind : ℕ) (stepped : Stepped) : Type 0 where
+  headed : Headed (stepped .machine)
+  balance : freed kind (stepped .answer) + liveIn (stepped .machine) ≡ appended kind (stepped .answer) + liveIn machine
+
+module _ (machine : Machine) (headed : Headed machine) (kind : ℕ) (stepped : Stepped) (sized : Sized (stepped .machine)) where
+  -- no log changes
+  balanced-same : stepped .machine .logs ≡ machine .logs →
+      freed kind (stepped .answer) ≡ appended kind (stepped .answer) → Balanced machine kind stepped
+  balanced-same sameLogs sameCount = record {
+    headed = record { sized = sized; headNext = λ thread. rw sameLogs (headed .headNext thread) };
+    balance = rw (sameLogs, sameCount);
+  }
+
+  -- one log changes
+  balanced-log : (thread : ℕ) (log : Log) → thread < threadCount →
+      stepped .machine .logs ≡ set (machine .logs) thread log → log .head .0 ≤ log .tail .next .0 →
+      freed kind (stepped .answer) + liveCount log ≡ appended kind (stepped .answer) + liveCount (logOf machine thread) →
+      Balanced machine kind stepped
+  balanced-log thread log inRange isSet headNext balance =
+      let inLogs : thread < length (machine .logs) = rw (headed .sized .logs) inRange in
+      record {
+        headed = record {
+          sized = sized;
+          headNext =
+              rw isSet (set-cases (machine .logs) thread log noLog inLogs
+              (λ other log. log .head .0 ≤ log .tail .next .0) headNext (λ other differs. headed .headNext other));
+        };
+        balance = rw isSet (omega (arith, sum-set liveCount (machine .logs) thread log noLog inLogs));
+      }
+
+-- every effect keeps the balance
+effect-balanced : (machine : Machine) → Headed machine → (kind : Kind) (thread place value : ℕ) →
+    AllFail (testsOf machine kind thread place value) →
+    Balanced machine (kindNumber kind) (effect machine kind thread place value)
+unfolding effect loadEffect logEffect storeEffect acquireEffect logReleaseEffect releaseEffect flushEffect
+    flushLogEffect fenceEffect pruneEffect evictEffect evictLogEffect appendOf grownTail flushLogOf flushedTail
+    endReleaseOf releasedTail fenceLogOf fencedTail evictSlotOf dropOf
+effect-balanced machine headed kind thread place value fails =
+    by-kind
+    kind
+    (effect-sized machine (headed .sized) kind thread place value fails)
+    (thread-in-range machine kind thread place value fails)
+    (headed .headNext thread)
+  where
+    by-kind : (kind : Kind) → Sized (effect machine kind thread place value .machine) → thread < threadCount →
+        logOf machine thread .head .0 ≤ logOf machine thread .tail .next .0 →
+        Balanced machine (kindNumber kind) (effect machine kind thread place value)
+    by-kind LOAD sized inRange order = balanced-same machine headed 1 _ sized refl refl
+    by-kind LOG sized inRange order =
+        balanced-log machine headed 2 _ sized thread
+        (enterOf (logOf machine thread) (Store place (cachedAt (machine .cache) place))) inRange refl (omega arith)
+        (omega arith)
+    by-kind STORE sized inRange order = balanced-same machine headed 3 _ sized refl refl
+    by-kind ACQUIRE sized inRange order =
+        balanced-log machine headed 4 _ sized thread
+        (enterOf (logOf machine thread) (Acquire place (lockOf machine place .count))) inRange refl (omega arith)
+        (omega arith)
+    by-kind LOGREL sized inRange order =
+        balanced-log machine headed 5 _ sized thread
+        (enterOf (logOf machine thread) (Release place (lockOf machine place .count))) inRange refl (omega arith)
+        (omega arith)
+    by-kind RELEASE sized inRange order =
+        balanced-log machine headed 6 _ sized thread (endReleaseOf (logOf machine thread)) inRange refl order refl
+    by-kind FLUSH sized inRange order = balanced-same machine headed 7 _ sized refl refl
+    by-kind FLUSHLOG sized inRange order =
+        balanced-log machine headed 8 _ sized thread (flushLogOf (logOf machine thread)) inRange refl order refl
+    by-kind FENCE sized inRange order =
+        balanced-log machine headed 9 _ sized thread (fenceLogOf (logOf machine thread)) inRange refl order refl
+    by-kind PRUNE sized inRange order =
+        let log = logOf machine thread in
+        let most = oldest-most log in
+        balanced-log machine headed 10 _ sized thread (dropOf log (oldestRegion log)) inRange
+        (prune-logs machine thread place value) (omega arith) (omega arith)
+    by-kind EVICT sized inRange order = balanced-same machine headed 11 _ sized refl refl
+    by-kind EVICTLOG sized inRange order =
+        balanced-log machine headed 12 _ sized thread (evictSlotOf (logOf machine thread) place) inRange refl order refl
+
+-- a refused step frees and appends nothing
+refusal-balance : (kind : ℕ) (answer : Answer) → isAccepted answer ≡ false → freed kind answer ≡ appended kind answer
+refusal-balance kind answer isRefusal = rw (isRefusal, beside-a-refusal answer isRefusal) (cond-same (eqb kind 10) 0)
+
+-- every step keeps the balance
+step-balanced : (machine : Machine) → Headed machine → (step : Step) → Balanced machine (step .kind) (stepWith machine step)
+step-balanced machine headed step =
+    step-cases
+    machine
+    (Balanced machine (step .kind))
+    (λ answer isRefusal. record { headed = headed; balance = rw (refusal-balance (step .kind) answer isRefusal) })
+    (step .kind)
+    (step .thread)
+    (step .place)
+    (step .value)
+    (λ kind isKind fails.
+    rw (kind-number (step .kind) kind isKind)
+    (effect-balanced machine headed kind (step .thread) (step .place) (step .value) fails))
+
+-- and so does every list of steps
+run-balanced : (machine : Machine) → Headed machine → (steps : List Step) →
+    freedBy machine steps + liveIn (after machine steps) ≡ appendedBy machine steps + liveIn machine
+unfolding after freedBy appendedBy
+run-balanced machine headed [] = refl
+run-balanced machine headed (step ∷ steps) =
+    let now = step-balanced machine headed step in
+    let later = run-balanced (stepWith machine step .machine) (now .headed) steps in
+    omega arith
+
+-- at a beginning no entry is live
+begin-headed : (cells : List ℕ) (logs : List Log) → AllIdle logs → Headed (machineWith cells logs)
+begin-headed cells logs all = record {
+  sized = begin-sized cells logs all;
+  headNext = each-log logs all (λ log. log .head .0 ≤ log .tail .next .0) (λ log is. omega (arith, is .nextIs)) (omega arith);
+}
+
+begin-live : (cells : List ℕ) (logs : List Log) → AllIdle logs → liveIn (machineWith cells logs) ≡ 0
+begin-live cells logs all =
+    let none = each-log logs all (λ log. liveCount log ≡ 0) (λ log is. omega (arith, is .nextIs)) refl in
+    sum-none liveCount logs noLog none
+
+-- so from every beginning, and from the start call, whether it accepts its words or not
+begin-sum : (cells : List ℕ) (logs : List Log) → AllIdle logs → (steps : List Step) →
+    freedBy (machineWith cells logs) steps + liveIn (after (machineWith cells logs) steps) ≡ appendedBy (machineWith cells logs) steps
+begin-sum cells logs all steps =
+    omega (arith, run-balanced (machineWith cells logs) (begin-headed cells logs all) steps, begin-live cells logs all)
+
+pub log-sum : LogSum
+log-sum words steps =
+    on-start
+    (λ machine. freedBy machine steps + liveIn (after machine steps) ≡ appendedBy machine steps)
+    (λ cells isLength. begin-sum cells freshLogs fresh-all steps)
+    words

@@ -1,0 +1,187 @@
+-- How many LOGREL steps of a lock stand at a pruned entry: what a longer history, and a PRUNE, do to that number.
+use Prim.Native.Nat.{ℕ, zero, suc, _+_, _-_, _≤_, _<_}
+use native.Mathlib.Decide.{decLt, ℕ-discrete}
+use native.Mathlib.Omega.{arith}
+use mathlib.Core.Path.{_≡_, refl, sym, ap, _∙_}
+use mathlib.Core.Bool.{Bool, true, false, cond, true≢false}
+use mathlib.Core.List.{List}
+use mathlib.Core.Logic.{_⊎_, ⊎-elim, by-cases}
+use lib.ListN.{length}
+use lib.Dec.{ltb}
+use borrow.Author.Tests.{lt-ltb, le-ltb}
+use Rattle.undo.specs.Regions.{isRelease}
+use Rattle.undo.specs.declared.Event.the-variants.{Release}
+use Rattle.undo.specs.declared.SyncCount.{SyncCount}
+use Rattle.atomicity.specs.History.{Fed, stepAt}
+use Rattle.atomicity.proofs.Logged.{Entries, Made}
+use Rattle.atomicity.proofs.Ordered.{andThen, accepted-inside}
+use Rattle.atomicity.proofs.Places.{madeBy, lastOf, length-then, step-before, step-new, last-before}
+use Rattle.atomicity.proofs.RegionsPrune.{PruneRegions}
+use Rattle.laws.proofs.ReleaseSteps.{LogsRelease, ifReleases, releases-then, releases-agree, releases-fail, ReleaseSteps}
+
+-- how many numbers below a count pass a test
+unfoldable pub countBelow : (ℕ → Bool) → ℕ → ℕ
+countBelow test zero = 0
+countBelow test (suc count) = cond (test count) 1 0 + countBelow test count
+
+pub count-same : (one other : ℕ → Bool) (count : ℕ) → ((number : ℕ) → number < count → one number ≡ other number) →
+    countBelow one count ≡ countBelow other count
+unfolding countBelow
+count-same one other zero agree = refl
+count-same one other (suc count) agree =
+    rw (agree count (omega arith), count-same one other count (λ number under. agree number (omega arith)))
+
+-- one number more passes
+pub count-more : (one other : ℕ → Bool) (count extra : ℕ) → extra < count → one extra ≡ false → other extra ≡ true →
+    ((number : ℕ) → number < count → (number ≡ extra → ⊥) → one number ≡ other number) →
+    countBelow other count ≡ suc (countBelow one count)
+unfolding countBelow
+count-more one other zero extra under fails passes agree = absurd (omega arith)
+count-more one other (suc count) extra under fails passes agree =
+    by-cases
+    (ℕ-discrete extra count)
+    (λ same.
+    let below = count-same one other count (λ number less. agree number (omega arith) (λ equal. omega arith)) in
+    rw (rw same at fails, rw same at passes) (omega arith))
+    (λ differs.
+    let below = count-more one other count extra (omega (arith, differs)) fails passes (λ number less. agree number (omega arith)) in
+    rw (agree count (omega arith) (λ equal. differs (sym equal))) (omega arith))
+
+-- the step at the place is an accepted LOGREL of the lock, and its entry is below its thread's head
+abbrev pub prunedTest : (ℕ → ℕ) → (ℕ → ℕ) → List Fed → ℕ → ℕ → Bool
+prunedTest given heads history lock place =
+    ifReleases (stepAt history place) lock (ltb (lastOf given history place) (heads (stepAt history place .thread)))
+
+-- each lock's number is how many such steps there are
+pub record Counted (given heads : ℕ → ℕ) (history : List Fed) (pruned : ℕ → ℕ) : Type 0 where
+  pub number : (lock : ℕ) → pruned lock ≡ countBelow (prunedTest given heads history lock) (length history)
+
+-- the same heads, and the same numbers
+pub counted-same : {given heads after : ℕ → ℕ} {history : List Fed} {pruned now : ℕ → ℕ} →
+    ((thread : ℕ) → after thread ≡ heads thread) → ((lock : ℕ) → now lock ≡ pruned lock) →
+    Counted given heads history pruned → Counted given after history now
+counted-same {given} {heads} {after} {history} same sameNumber counted = record {
+  number = λ lock.
+      sameNumber lock ∙
+      (counted .number lock ∙
+      count-same
+      (prunedTest given heads history lock)
+      (prunedTest given after history lock)
+      (length history)
+      (λ place under. rw (same (stepAt history place .thread))));
+}
+
+-- a step more whose entry, if it is a LOGREL, is not pruned
+pub counted-longer : {given heads : ℕ → ℕ} {history : List Fed} {pruned : ℕ → ℕ} (fed : Fed) →
+    ((lock : ℕ) → LogsRelease fed lock → heads (fed .thread) ≤ madeBy given (andThen history fed) (fed .thread) (suc (length history))) →
+    Counted given heads history pruned → Counted given heads (andThen history fed) pruned
+unfolding countBelow
+counted-longer {given} {heads} {history} fed notPruned counted = record {
+  number = λ lock.
+      let before = counted .number lock in
+      let longer : countBelow (prunedTest given heads history lock) (length history) ≡
+      countBelow (prunedTest given heads (andThen history fed) lock) (length history) =
+      count-same
+      (prunedTest given heads history lock)
+      (prunedTest given heads (andThen history fed) lock)
+      (length history)
+      (λ place before. rw (last-before history fed given before, step-before history fed before)) in
+      rw (length-then history fed, new-fails lock) (omega arith);
+}
+  where
+    new-fails : (lock : ℕ) → prunedTest given heads (andThen history fed) lock (length history) ≡ false
+    new-fails lock =
+        rw (step-new history fed)
+        (releases-fail fed lock
+        (ltb (madeBy given (andThen history fed) (fed .thread) (suc (length history))) (heads (fed .thread)))
+        (λ releases. le-ltb _ _ (notPruned lock releases)))
+
+-- a PRUNE counts one more RELEASE of a lock if the region ends in one, and no more of another
+abbrev pub PrunedOne : Entries → ℕ → ℕ → ℕ → ℕ → ℕ → Type 0
+PrunedOne entries thread last lock number after =
+    ((count : SyncCount) × (entries .event thread last ≡ Release lock count) × (after ≡ suc number)) ⊎
+    (((count : SyncCount) → entries .event thread last ≡ Release lock count → ⊥) × (after ≡ number))
+
+module _ {old new : Entries} {now thread size : ℕ} {history : List Fed} (step : PruneRegions old new now thread size)
+    (steps : ReleaseSteps history old) where
+  abbrev last : ℕ
+  last = old .head thread + size - 1
+
+  -- a LOGREL step that does not stand at the region's last entry is as pruned as it was
+  elsewhere : (lock place : ℕ) →
+      (LogsRelease (stepAt history place) lock → stepAt history place .thread ≡ thread → lastOf (old .before) history place ≡ last → ⊥) →
+      prunedTest (old .before) (old .head) history lock place ≡ prunedTest (old .before) (new .head) history lock place
+  elsewhere lock place notLast =
+      releases-agree (stepAt history place) lock _ _ (λ releases.
+      by-cases
+      (ℕ-discrete (stepAt history place .thread) thread)
+      (λ same.
+      let says = steps .stands releases .isEntry .says in
+      rw (same, step .headMore)
+      (mine (madeBy (old .before) history thread (suc place)) (ap isRelease (rw same at says))
+      (λ isLast. notLast releases same (rw same isLast))))
+      (λ differs. rw (step .headOther _ differs)))
+    where
+      mine : (number : ℕ) → isRelease (old .event thread number) ≡ true → (number ≡ last → ⊥) →
+          ltb number (old .head thread) ≡ ltb number (old .head thread + size)
+      mine number ends notLast =
+          by-cases
+          (decLt number (old .head thread))
+          (λ pruned. lt-ltb _ _ pruned ∙ sym (lt-ltb number (old .head thread + size) (omega arith)))
+          (λ notPruned.
+          le-ltb number (old .head thread) (omega (arith, notPruned)) ∙
+          sym (le-ltb number (old .head thread + size) (outside (omega (arith, notPruned)))))
+        where
+          outside : old .head thread ≤ number → old .head thread + size ≤ number
+          outside from =
+              by-cases
+              (decLt (suc number) (old .head thread + size))
+              (λ before. absurd (true≢false (sym ends ∙ step .releaseLast number from before)))
+              (λ notBefore. omega (arith, notBefore, notLast))
+
+  last-made : Made old thread last
+  last-made =
+      let since = step .headSince in
+      let some-entry = step .notEmpty in
+      let within = step .within in
+      record { since = omega arith; below = omega arith }
+
+  pub counted-prune : {pruned after : ℕ → ℕ} →
+      ((lock : ℕ) → PrunedOne old thread last lock (pruned lock) (after lock)) →
+      Counted (old .before) (old .head) history pruned → Counted (old .before) (new .head) history after
+  counted-prune {pruned} {after} cases counted = record { number = λ lock. ⊎-elim (ended lock) (unended lock) (cases lock) }
+    where
+      unended : (lock : ℕ) →
+          ((count : SyncCount) → old .event thread last ≡ Release lock count → ⊥) × (after lock ≡ pruned lock) →
+          after lock ≡ countBelow (prunedTest (old .before) (new .head) history lock) (length history)
+      unended lock same =
+          same .1 ∙
+          (counted .number lock ∙
+          count-same (prunedTest (old .before) (old .head) history lock)
+          (prunedTest (old .before) (new .head) history lock) (length history) (λ place under.
+          elsewhere lock place (λ releases isThread isLast.
+          let found = steps .stands releases in
+          same .0 (found .count) (rw (isLast, isThread) at (found .isEntry .says)))))
+
+      ended : (lock : ℕ) →
+          (count : SyncCount) × (old .event thread last ≡ Release lock count) × (after lock ≡ suc (pruned lock)) →
+          after lock ≡ countBelow (prunedTest (old .before) (new .head) history lock) (length history)
+      ended lock ends =
+          let maker = steps .made (record { made = last-made; says = ends .1 }) in
+          let place = old .time thread last in
+          let some-entry = step .notEmpty in
+          ends .2 ∙
+          (ap suc (counted .number lock) ∙
+          sym
+          (count-more
+          (prunedTest (old .before) (old .head) history lock)
+          (prunedTest (old .before) (new .head) history lock)
+          (length history)
+          place
+          (accepted-inside history place (maker .isStep .isAccepted))
+          (releases-then (maker .isStep) _ ∙ rw (maker .isLast, maker .isThread) (le-ltb last (old .head thread) (omega arith)))
+          (releases-then (maker .isStep) _ ∙
+          rw (maker .isLast, maker .isThread, step .headMore) (lt-ltb last (old .head thread + size) (omega arith)))
+          (λ other under differs.
+          elsewhere lock other (λ releases isThread isLast.
+          differs (sym (rw (isLast, isThread) at (steps .stands releases .isTime)))))))

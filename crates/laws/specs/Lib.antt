@@ -1,0 +1,5 @@
+-- The laws on refusals 9, 10, 12, 13, 15 and 16, on what alters an image, and the log's sum.
+pub mod RefusalLaws
+pub mod PrunedRegions
+pub mod KeptOnly
+pub mod LogSum

@@ -1,0 +1,46 @@
+-- The number that refusal 16 compares, by document 01's words, and the law that the machine's counter is it.
+use Prim.Native.Nat.{ℕ, zero, suc, _+_, _<_}
+use mathlib.Core.Path.{_≡_}
+use mathlib.Core.Bool.{Bool, false, cond, _&&_}
+use mathlib.Core.List.{List}
+use mathlib.Core.Option.{Option, none, some}
+use lib.ListN.{length}
+use lib.Dec.{eqb}
+use Rattle.sizes.specs.Sizes.{lockCount}
+use Rattle.machine.specs.Holds.{lockOf}
+use Rattle.machine.specs.Runs.{Step}
+use Rattle.reference.specs.Reference.{Book, emptyBook, joins, isCommittedAt}
+use Rattle.atomicity.specs.History.{Fed, stepAt, fedBook, startCells, machineAfter, historyAfter, bookBefore}
+
+-- the region at this place is committed, where there is one
+abbrev pub isCommittedIn : Book → Option ℕ → Bool
+isCommittedIn book none = false
+isCommittedIn book (some place) = isCommittedAt (book .regions) place
+
+-- the step at this place is an accepted LOGREL (5) of the lock, and the region that it joined, and so ended, is committed by now
+unfoldable pub endsCommitted : List ℕ → List Fed → ℕ → ℕ → Bool
+endsCommitted cells history lock place =
+    stepAt history place .accepted &&
+    eqb (stepAt history place .kind) 5 &&
+    eqb (stepAt history place .place) lock &&
+    isCommittedIn
+    (fedBook (emptyBook cells) history)
+    (joins (bookBefore cells history place) (stepAt history place .kind) (stepAt history place .thread))
+
+-- how many of the first so many steps are such
+unfoldable pub countCommitted : List ℕ → List Fed → ℕ → ℕ → ℕ
+countCommitted cells history lock zero = 0
+countCommitted cells history lock (suc count) =
+    cond (endsCommitted cells history lock count) 1 0 + countCommitted cells history lock count
+
+-- "regions ending in a RELEASE of that lock are pruned": how many. A region ends in at most one RELEASE.
+abbrev pub prunedReleases : List ℕ → List Fed → ℕ → ℕ
+prunedReleases cells history lock = countCommitted cells history lock (length history)
+
+-- the law on refusal 16: the lock's counter is that number
+abbrev pub PrunedLaw : Type 0
+PrunedLaw =
+    (words : List ℕ) (steps : List Step) (lock : ℕ) →
+    lock < lockCount →
+    lockOf (machineAfter words steps) lock .pruned .0 ≡
+    prunedReleases (startCells words) (historyAfter words steps) lock

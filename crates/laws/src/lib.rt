@@ -1,0 +1,1 @@
+// Laws on every list of steps beside demand 3: refusals by the history alone, what alters an image, the log's sum. It holds no code.

@@ -1,0 +1,2 @@
+-- PRUNE, asked of the machine's parts.
+pub mod Pruning

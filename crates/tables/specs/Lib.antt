@@ -1,0 +1,3 @@
+-- The P points, and the edges of every definition.
+pub mod Points
+pub mod Edges
