@@ -12,3 +12,5 @@ pub mod PrunedLaw
 pub mod KeptOnlyHolds
 -- log's sum
 pub mod LogSumHolds
+-- evictions before a cut
+pub mod AnyEvictionHolds

@@ -3,3 +3,4 @@ pub mod RefusalLaws
 pub mod PrunedRegions
 pub mod KeptOnly
 pub mod LogSum
+pub mod AnyEviction

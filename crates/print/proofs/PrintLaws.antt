@@ -7,22 +7,11 @@ use native.Mathlib.Omega.{arith}
 use borrow.Author.Tests.{eq-eqb, ne-eqb}
 use lib.ListN.{length, getD, take, drop, length-append, take-append-drop, drop-of-length-le}
 use lib.Seq.{length-take-le, take-length}
-use Rattle.answer.specs.Answer.{numberOf, valueOf}
-use Rattle.answer.specs.declared.Answer.{Answer}
 use Rattle.line.specs.Text.{ascii, decimalText}
 use Rattle.print.specs.Buffers.{written, placeAfter}
-use Rattle.print.specs.Printed.{resultText, cellText, cellsText}
+use Rattle.print.specs.Printed.{cellText, cellsText}
 use Rattle.print.proofs.BufferLaws.{Wrote, wrote-more, wrote-long, pasted, Upto}
 use Rattle.line.proofs.TextLaws.{drop-first}
-
--- the pieces of a step's line, where the numbers are the answer's
-pub result-line : {most : ℕ} {old buffer : List ℕ} {place : ℕ} (number : ℕ) (answer : Answer) {given beside : ℕ}
-    → given ≡ numberOf answer → beside ≡ valueOf answer
-    → Upto most old buffer place
-    (ascii "n=" ++ decimalText number ++ ascii " answer=" ++ decimalText given ++ ascii " value=" ++ decimalText beside ++ ascii "\n")
-    → Wrote old buffer place (resultText number answer)
-unfolding resultText
-result-line number answer is beside-is line = rw (sym is, sym beside-is) (line .wrote)
 
 -- the pieces of a cell's line
 pub cell-line : {most : ℕ} {old buffer : List ℕ} {place : ℕ} (cell content : ℕ)

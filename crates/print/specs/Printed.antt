@@ -7,6 +7,11 @@ use Rattle.answer.specs.Answer.{numberOf, valueOf}
 use Rattle.answer.specs.declared.Answer.{Answer}
 use Rattle.line.specs.Text.{ascii, decimalText}
 
+-- a numbered line with two more numbers, each after its label
+unfoldable pub numbersText : ℕ → List ℕ → ℕ → List ℕ → ℕ → List ℕ
+numbersText number first a second b =
+    ascii "n=" ++ decimalText number ++ first ++ decimalText a ++ second ++ decimalText b ++ ascii "\n"
+
 -- "It prints per step its number, answer and number given", as `n=1 answer=0 value=0`
 unfoldable pub resultText : ℕ → Answer → List ℕ
 resultText number answer =
@@ -21,3 +26,8 @@ cellText cell content = ascii "cell=" ++ decimalText cell ++ ascii " holds=" ++ 
 unfoldable pub cellsText : ℕ → List ℕ → List ℕ
 cellsText cell [] = []
 cellsText cell (content ∷ contents) = cond (eqb content 0) [] (cellText cell content) ++ cellsText (suc cell) contents
+
+-- a cut: its step's number, how many choices were tried, and how many recovered cells differ from the start, as `n=0 choices=1 differ=0`
+unfoldable pub cutLineText : ℕ → ℕ → ℕ → List ℕ
+cutLineText number choices differ =
+    ascii "n=" ++ decimalText number ++ ascii " choices=" ++ decimalText choices ++ ascii " differ=" ++ decimalText differ ++ ascii "\n"

@@ -4,3 +4,4 @@ pub mod Pass
 pub mod UndoLaws
 pub mod Turns
 pub mod Outcomes
+pub mod MixLaws

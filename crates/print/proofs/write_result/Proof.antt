@@ -1,178 +1,44 @@
--- `print::write_result` meets its contract: the line is made piece by piece, and written at once.
-use mathlib.Core.Path.{sym, _∙_, ap}
-use native.Mathlib.Omega.{arith}
+-- `print::write_result` meets its contract: the line of two labels and three numbers, which are the answer's.
+use mathlib.Core.Path.{sym}
+use Rattle.line.specs.Text.{ascii}
+use Rattle.print.specs.Printed.{numbersText, resultText}
 use borrow.Author.Needs.{needs}
-use lib.ListN.{replicate}
-use lib.Seq.{length-take-le}
-use Rattle.line.specs.Text.{ascii, decimalText}
-use Rattle.print.specs.Buffers.{written, placeAfter}
-use Rattle.print.specs.Printed.{resultText}
-use Rattle.print.proofs.BufferLaws.{Wrote, wrote-long, wrote-front, upto-nothing, upto-more}
-use Rattle.print.proofs.DecimalLaws.{decimal-most}
-use Rattle.print.proofs.PrintLaws.{result-line}
 use Rattle.print.proofs.write_result.Statement.{statement}
 use Rattle.print.proofs.write_result.Tie as tie
-
-slice-aggregate-write : tie.Need-slice-aggregate-write
-slice-aggregate-write c = search needs
-
-slice-aggregate-write-2 : tie.Need-slice-aggregate-write-2
-slice-aggregate-write-2 c = search needs
-
-write-requires : tie.Need-write-requires
-write-requires c κs = search needs
-
-slice-aggregate-write-number : tie.Need-slice-aggregate-write-number
-slice-aggregate-write-number c = search needs
-
-write-number-requires : tie.Need-write-number-requires
-write-number-requires c κs = search needs
-
-slice-aggregate-write-3 : tie.Need-slice-aggregate-write-3
-slice-aggregate-write-3 c = search needs
-
-slice-aggregate-write-4 : tie.Need-slice-aggregate-write-4
-slice-aggregate-write-4 c = search needs
-
-write-requires-2 : tie.Need-write-requires-2
-write-requires-2 c κs = search needs
-
-slice-aggregate-write-number-2 : tie.Need-slice-aggregate-write-number-2
-slice-aggregate-write-number-2 c = search needs
 
 number-requires : tie.Need-number-requires
 number-requires c κs = search needs
 
-write-number-requires-2 : tie.Need-write-number-requires-2
-write-number-requires-2 c κs = search needs
-
-slice-aggregate-write-5 : tie.Need-slice-aggregate-write-5
-slice-aggregate-write-5 c = search needs
-
-slice-aggregate-write-6 : tie.Need-slice-aggregate-write-6
-slice-aggregate-write-6 c = search needs
-
-write-requires-3 : tie.Need-write-requires-3
-write-requires-3 c κs = search needs
-
-slice-aggregate-write-number-3 : tie.Need-slice-aggregate-write-number-3
-slice-aggregate-write-number-3 c = search needs
-
 value-requires : tie.Need-value-requires
 value-requires c κs = search needs
 
-write-number-requires-3 : tie.Need-write-number-requires-3
-write-number-requires-3 c κs = search needs
+slice-aggregate-write-numbers : tie.Need-slice-aggregate-write-numbers
+slice-aggregate-write-numbers c = search needs
 
-slice-aggregate-write-7 : tie.Need-slice-aggregate-write-7
-slice-aggregate-write-7 c = search needs
+slice-aggregate-write-numbers-2 : tie.Need-slice-aggregate-write-numbers-2
+slice-aggregate-write-numbers-2 c = search needs
 
-slice-aggregate-write-8 : tie.Need-slice-aggregate-write-8
-slice-aggregate-write-8 c = search needs
-
-write-requires-4 : tie.Need-write-requires-4
-write-requires-4 c κs = search needs
-
--- the line
-line-made : (c : tie.After-write4) →
-    Wrote (replicate 78 0) (c .write4 .last .0) (c .write4 .result)
-    (resultText (c .before .before .before .before .before .before .before .before .before .before .before .before
-    .before .before .before .before .before .before .before .before .before .before .before .before .before .before
-    .before .args .number)
-    (c .before .before .before .before .before .before .before .before .before .before .before .before .before .before
-    .before .before .before .before .before .before .before .before .before .before .before .before .before .args
-    .answer))
-unfolding ascii
-line-made c =
-    let args =
-    c .before .before .before .before .before .before .before .before .before .before .before .before .before .before
-    .before .before .before .before .before .before .before .before .before .before .before .before .before .args in
-    let given = c .before .before .before .before .before .before .before .before .before .before .before .before .before .number in
-    let beside = c .before .before .before .before .before .value in
-    let made1 =
-    upto-more (upto-nothing (replicate 78 0)) (ascii "n=") 2 (omega arith) (omega arith)
-    (c .before .before .before .before .before .before .before .before .before .before .before .before .before .before
-    .before .before .before .before .before .before .before .before .before .write .ensures .0)
-    (c .before .before .before .before .before .before .before .before .before .before .before .before .before .before
-    .before .before .before .before .before .before .before .before .before .write .ensures .1) in
-    let made2 =
-    upto-more made1 (decimalText (args .number)) 20 (decimal-most (args .number)) (omega arith)
-    (c .before .before .before .before .before .before .before .before .before .before .before .before .before .before
-    .before .before .before .before .before .before .write-number .ensures .0)
-    (c .before .before .before .before .before .before .before .before .before .before .before .before .before .before
-    .before .before .before .before .before .before .write-number .ensures .1) in
-    let made3 =
-    upto-more made2 (ascii " answer=") 8 (omega arith) (omega arith)
-    (c .before .before .before .before .before .before .before .before .before .before .before .before .before .before
-    .before .before .write2 .ensures .0)
-    (c .before .before .before .before .before .before .before .before .before .before .before .before .before .before
-    .before .before .write2 .ensures .1) in
-    let made4 =
-    upto-more made3 (decimalText (given .result)) 20 (decimal-most (given .result)) (omega arith)
-    (c .before .before .before .before .before .before .before .before .before .before .before .before .write-number2 .ensures .0)
-    (c .before .before .before .before .before .before .before .before .before .before .before .before .write-number2 .ensures .1) in
-    let made5 =
-    upto-more made4 (ascii " value=") 7 (omega arith) (omega arith)
-    (c .before .before .before .before .before .before .before .before .write3 .ensures .0)
-    (c .before .before .before .before .before .before .before .before .write3 .ensures .1) in
-    let made6 =
-    upto-more made5 (decimalText (beside .result)) 20 (decimal-most (beside .result)) (omega arith)
-    (c .before .before .before .before .write-number3 .ensures .0)
-    (c .before .before .before .before .write-number3 .ensures .1) in
-    let made7 = upto-more made6 (ascii "\n") 1 (omega arith) (omega arith) (c .write4 .ensures .0) (c .write4 .ensures .1) in
-    result-line (args .number) (args .answer) (given .ensures) (beside .ensures) made7
-
-array-share-prefix-line : tie.Need-array-share-prefix-line
-array-share-prefix-line c =
-    let made = line-made (c .before .before) in
-    omega (arith, made .end, made .fits, wrote-long made)
-
-slice-aggregate-write-9 : tie.Need-slice-aggregate-write-9
-slice-aggregate-write-9 c = sym (length-take-le _ _ (array-share-prefix-line (c .before)))
-
-write-requires-5 : tie.Need-write-requires-5
-write-requires-5 c κs = search needs
+write-numbers-requires : tie.Need-write-numbers-requires
+write-numbers-requires c κs = search needs
 
 same-length : tie.Need-same-length
 same-length c = search needs
 
 returns : tie.Need-returns
+unfolding ascii numbersText resultText
 returns c =
-    let args =
-    c .before .before .before .before .before .before .before .before .before .before .before .before .before .before
-    .before .before .before .before .before .before .before .before .before .before .before .before .before .before
-    .before .before .before .before .before .args in
-    let made = wrote-front (line-made (c .before .before .before .before .before .before)) in (
-      c .before .before .write5 .ensures .0 ∙ ap (placeAfter (args .buffer .now) (args .place)) made,
-      c .before .before .write5 .ensures .1 ∙ ap (written (args .buffer .now) (args .place)) made,
-    )
+    let given = c .before .before .before .before .before .before .before in
+    let beside = c .before .before .before .before .before .before in
+    rw (sym (given .number .ensures), sym (beside .value .ensures)) (c .before .before .write-numbers .ensures)
 
 pub write-result-spec : {M : Type 1} → statement M
 write-result-spec =
     tie.close
     (tie.spec
-    slice-aggregate-write
-    slice-aggregate-write-2
-    write-requires
-    slice-aggregate-write-number
-    write-number-requires
-    slice-aggregate-write-3
-    slice-aggregate-write-4
-    write-requires-2
-    slice-aggregate-write-number-2
     number-requires
-    write-number-requires-2
-    slice-aggregate-write-5
-    slice-aggregate-write-6
-    write-requires-3
-    slice-aggregate-write-number-3
     value-requires
-    write-number-requires-3
-    slice-aggregate-write-7
-    slice-aggregate-write-8
-    write-requires-4
-    array-share-prefix-line
-    slice-aggregate-write-9
-    write-requires-5
+    slice-aggregate-write-numbers
+    slice-aggregate-write-numbers-2
+    write-numbers-requires
     same-length
     returns)

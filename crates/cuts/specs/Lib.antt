@@ -1,0 +1,4 @@
+-- The choices of evicted lines at a cut, and what is printed of each cut of a listing.
+pub mod Choices
+pub mod Counting
+pub mod Cuts
