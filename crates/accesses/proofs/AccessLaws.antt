@@ -12,9 +12,10 @@ use borrow.Author.Tests.{lt-ltb, le-ltb, le-leb, lt-leb}
 use Rattle.sizes.specs.Sizes.{threadCount}
 use Rattle.answer.specs.Lists.{someBelow}
 use Rattle.answer.proofs.BelowLaws.{none-someBelow, found-someBelow}
-use Rattle.accesses.specs.Clocks.{clockAt, accessPlace, isKnown, hasUnknown, loadedOf, loggedCellOf}
+use Rattle.clocks.specs.Clocks.{clockAt, isKnown}
+use Rattle.accesses.specs.Accesses.{accessPlace, hasUnknown, loadedOf, loggedCellOf}
 use Rattle.accesses.specs.declared.Accesses.{Accesses}
-use Rattle.accesses.specs.declared.Clock.{Clock}
+use Rattle.clocks.specs.declared.Clock.{Clock}
 
 -- one number is below another where that one is not at most the first
 pub below-not : (a b : ℕ) → ltb a b ≡ not (leb b a)
@@ -37,7 +38,7 @@ module _ (accesses : Accesses) (sized : Sized accesses) where
   load-out clock cell out =
       rw (List·getD-eq-default (accesses .logged) 0 {n = cell} (omega (arith, sized .logged-long)), leb·zero)
 
-  -- and no other access of it
+  -- no thread's access of a cell past the last one is unknown
   pub log-out : (clock : Clock) (cell : ℕ) → 128 ≤ cell → hasUnknown accesses clock cell ≡ false
   log-out clock cell out =
       none-someBelow
@@ -55,7 +56,7 @@ module _ (accesses : Accesses) (sized : Sized accesses) where
   loadedOf-out thread cell stamp out =
       rw (set-out (accesses .stamps) (accessPlace cell thread) stamp (omega (arith, sized .stamps-long)))
 
-  -- nor is a LOG of a cell past the last one
+  -- a LOG of a cell past the last one is not kept: it leaves what a LOAD of the cell leaves
   pub loggedCellOf-out : (thread cell stamp : ℕ) → 128 ≤ cell →
       loggedCellOf accesses thread cell stamp ≡ loadedOf accesses thread cell stamp
   unfolding loadedOf loggedCellOf
@@ -71,7 +72,7 @@ module _ (accesses : Accesses) (clock : Clock) (cell : ℕ) where
   abbrev stampOf : ℕ → ℕ
   stampOf thread = getD (accesses .stamps) (accessPlace cell thread) 0
 
-  -- one of them is unknown to the clock
+  -- where one thread's last access of the cell is unknown to the clock, the cell has an unknown access
   pub one-unknown : (thread : ℕ) → thread < threadCount → clockAt clock thread < stampOf thread → hasUnknown accesses clock cell ≡ true
   one-unknown thread isThread unknown =
       found-someBelow
@@ -81,7 +82,7 @@ module _ (accesses : Accesses) (clock : Clock) (cell : ℕ) where
       isThread
       (rw (lt-leb (stampOf thread) (clockAt clock thread) unknown))
 
-  -- all but the first thread's are known
+  -- where the last accesses of the cell by threads 1 to 3 are known, thread 0's decides whether one is unknown
   pub first-decides : stampOf 3 ≤ clockAt clock 3 → stampOf 2 ≤ clockAt clock 2 → stampOf 1 ≤ clockAt clock 1 →
       ltb (clockAt clock 0) (getD (accesses .stamps) (cell * threadCount) 0) ≡ hasUnknown accesses clock cell
   unfolding someBelow

@@ -7,7 +7,7 @@ use Rattle.answer.specs.Refusals.{Test, unless, firstRefusal}
 use Rattle.answer.specs.declared.Answer.{Answer}
 use Rattle.answer.specs.declared.Answer.the-variants.{Accepted}
 use Rattle.answer.proofs.RefusalLaws.{AllRefuse, allRefuse-append}
-use Rattle.ring.specs.Ring.{roomTests}
+use Rattle.append.specs.Append.{roomTests}
 use Rattle.log.specs.Entries.{appendTests}
 use Rattle.log.specs.declared.Changed.{Changed}
 use Rattle.log.specs.declared.Log.{Log}
@@ -56,7 +56,7 @@ module _ {A : Type 0} (log : Log) (event : Event) (own : List Test) (refusals : 
   entry-refused outcome isRefused =
       let refusal = stopped outcome isRefused in ap (refuse (changed .answer)) (refusal .1) ∙ sym (refusal .0)
 
-  -- none held: the step is taken, with the entry in the log
+  -- no test held: the step is taken, with the entry in the log
   taken : (outcome : A) → number ≡ 0
       → (unless (λ answer. refuse answer log) tests outcome ≡ outcome)
       × (changed ≡ record { answer = Accepted (log .tail .next .0); log = enterOf log event })

@@ -5,9 +5,9 @@ use Rattle.answer.proofs.RefusalLaws.{AllRefuse}
 use Rattle.log.specs.declared.Log.{Log}
 use Rattle.accesses.specs.Logs.{logTestsOn}
 use Rattle.accesses.specs.declared.Accesses.{Accesses}
-use Rattle.accesses.specs.declared.Clock.{Clock}
+use Rattle.clocks.specs.declared.Clock.{Clock}
 
 module _ (log : Log) (accesses : Accesses) (clock : Clock) (cell : ℕ) where
-  -- its own ones, before those of its append
+  -- LOG's own tests, which stand before those of its append, are refusals
   pub log-own-refuses : AllRefuse (logTestsOn log accesses clock cell)
   log-own-refuses = (refl, (refl, (refl, tt)))

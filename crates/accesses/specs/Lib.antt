@@ -1,4 +1,4 @@
--- Clocks, the accesses that they put in order, LOAD and LOG.
-pub mod Clocks
+-- The accesses that clocks put in order, LOAD and LOG.
+pub mod Accesses
 pub mod Loads
 pub mod Logs

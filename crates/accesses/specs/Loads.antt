@@ -5,9 +5,10 @@ use mathlib.Core.List.{List, [], _∷_}
 use lib.ListN.{getD}
 use Rattle.answer.specs.Refusals.{Test, _⇒_, unless}
 use Rattle.answer.specs.declared.Answer.the-variants.{Accepted, Race}
-use Rattle.accesses.specs.Clocks.{clockAt, isKnown, loadedOf}
+use Rattle.clocks.specs.Clocks.{clockAt, isKnown}
+use Rattle.accesses.specs.Accesses.{loadedOf}
 use Rattle.accesses.specs.declared.Accesses.{Accesses}
-use Rattle.accesses.specs.declared.Clock.{Clock}
+use Rattle.clocks.specs.declared.Clock.{Clock}
 use Rattle.accesses.specs.declared.Loaded.{Loaded}
 
 -- LOAD 8: the cell's last LOG does not happen before it. (Accepted LOGs of a cell are in order, so the last one decides.)

@@ -8,9 +8,10 @@ use Rattle.log.specs.declared.Log.{Log}
 use Rattle.undo.specs.Events.{enterOf}
 use Rattle.undo.specs.Regions.{isClosing, isLogged}
 use Rattle.undo.specs.declared.Event.the-variants.{Store}
-use Rattle.accesses.specs.Clocks.{clockAt, hasUnknown, loggedCellOf}
+use Rattle.clocks.specs.Clocks.{clockAt}
+use Rattle.accesses.specs.Accesses.{hasUnknown, loggedCellOf}
 use Rattle.accesses.specs.declared.Accesses.{Accesses}
-use Rattle.accesses.specs.declared.Clock.{Clock}
+use Rattle.clocks.specs.declared.Clock.{Clock}
 use Rattle.accesses.specs.declared.Logged.{Logged}
 
 -- LOG 7, 9, 8: some thread's last access of the cell does not happen before it

@@ -32,7 +32,7 @@ module _ {A : Type 0} where
   getD-tab (suc n) f zero d below = refl
   getD-tab (suc n) f (suc i) d below = getD-tab n (λ k. f (suc k)) i d (le-of-suc-le-suc below)
 
-  -- the same function at each place gives the same table
+  -- functions that agree at each place give the same table
   pub tab-same : (n : ℕ) (f g : ℕ → A) → ((i : ℕ) → i < n → f i ≡ g i) → tab n f ≡ tab n g
   unfolding tab
   tab-same zero f g same = refl
@@ -54,7 +54,7 @@ module _ {A : Type 0} where
       (λ e. rw (eq-eqb j i e) (ap (λ (k : ℕ). getD (set list i a) k d) e ∙ getD-set-same list i a d (omega (arith, e))))
       (λ ne. rw (ne-eqb j i ne) (getD-set-other list i j a d ne))
 
-  -- where what is stored is what stands past the end, the same holds of every place
+  -- after a store of what stands past the end, the place stored to has that, and every other place has what it had
   pub getD-unset : (list : List A) (i j : ℕ) (d : A) → getD (set list i d) j d ≡ cond (eqb j i) d (getD list j d)
   getD-unset list i j d =
       by-cases (decLt j (length list)) (getD-set list i d j d)
@@ -84,13 +84,13 @@ module _ {A : Type 0} where
       getD-setFrom-at test value (suc place) list i d (le-of-suc-le-suc below) ∙
       ap (λ (k : ℕ). cond (test k) value (getD list i d)) (omega arith)
 
-  -- the value where the test holds, within the list
+  -- within the list, setFrom has the value where the test holds, and else what was there
   pub getD-setFrom : (test : ℕ → Bool) (value : A) (list : List A) (i : ℕ) (d : A) → i < length list →
       getD (setFrom test value 0 list) i d ≡ cond (test i) value (getD list i d)
   getD-setFrom test value list i d below =
       getD-setFrom-at test value 0 list i d below ∙ ap (λ (k : ℕ). cond (test k) value (getD list i d)) (zero-add i)
 
-  -- what was there where the test fails, at every place
+  -- at every place of which the test fails, setFrom has what was there
   pub getD-setFrom-kept : (test : ℕ → Bool) (value : A) (list : List A) (i : ℕ) (d : A) → test i ≡ false →
       getD (setFrom test value 0 list) i d ≡ getD list i d
   getD-setFrom-kept test value list i d fails =
@@ -100,7 +100,7 @@ module _ {A : Type 0} where
       List·getD-eq-default (setFrom test value 0 list) d (omega (arith, length-setFrom test value 0 list)) ∙
       sym (List·getD-eq-default list d (omega arith)))
 
-  -- where the value is what stands past the end, the same holds of every place
+  -- where the value is what stands past the end, setFrom has it at every place of which the test holds, and else what was there
   pub getD-clearFrom : (test : ℕ → Bool) (list : List A) (i : ℕ) (d : A) →
       getD (setFrom test d 0 list) i d ≡ cond (test i) d (getD list i d)
   getD-clearFrom test list i d =
@@ -143,7 +143,7 @@ module _ {A : Type 0} where
       getD-mixFrom-at test (suc place) news list i d (suc-inj long) ∙
       ap (λ (k : ℕ). cond (test k) (getD news i d) (getD list i d)) (omega arith)
 
-  -- the first list's where the test holds, at every place
+  -- at every place mixFrom has what the first list has where the test holds, and else what the second has
   pub getD-mixFrom : (test : ℕ → Bool) (news list : List A) (i : ℕ) (d : A) → length news ≡ length list →
       getD (mixFrom test 0 news list) i d ≡ cond (test i) (getD news i d) (getD list i d)
   getD-mixFrom test news list i d long =
@@ -230,15 +230,15 @@ module _ {A : Type 0} where
         (λ i less. refl)
         (λ i past. refl)
 
-    -- before the first place at which they differ it is the old list
+    -- before the first place at which the two lists differ, the partly rewritten list is the old one
     pub partly-start : (place : ℕ) → ((i : ℕ) → i < place → getD new i d ≡ getD old i d) → old ≡ partly place new old
     partly-start place same = is-partly place old refl (λ i below. sym (same i below)) (λ i past. refl)
 
-    -- past the last place at which they differ it is the new list
+    -- past the last place at which the two lists differ, the partly rewritten list is the new one
     pub partly-done : (place : ℕ) → ((i : ℕ) → place ≤ i → getD new i d ≡ getD old i d) → partly place new old ≡ new
     partly-done place same = sym (is-partly place new long (λ i below. refl) same)
 
-    -- at the end it is the new list
+    -- rewritten up to its end, the list is the new one
     pub partly-all : (place : ℕ) → length old ≤ place → partly place new old ≡ new
     partly-all place le =
         partly-done place (λ i past. List·getD-eq-default new d (omega arith) ∙ sym (List·getD-eq-default old d (omega arith)))

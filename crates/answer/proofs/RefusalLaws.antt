@@ -62,7 +62,7 @@ unless-append refuse outcome ((holds ⇒ answer) ∷ tests) more = ap (cond hold
 module _ {A B : Type 0} (refuse : Answer → A) (outcome : A) (report : Answer → B) (done : B) (answerOf : B → Answer)
     (reports : (answer : Answer) → answerOf (report answer) ≡ answer) (accepts : numberOf (answerOf done) ≡ 0)
     (tests : List Test) (refusals : AllRefuse tests) where
-  -- one of them holds, so the outcome is the same refusal
+  -- where one of the tests holds, the outcome is the refusal that the function's result has in it
   pub one-stops : (numberOf (answerOf (unless report tests done)) ≡ 0 → ⊥) →
       unless refuse tests outcome ≡ refuse (answerOf (unless report tests done))
   one-stops =
@@ -77,7 +77,7 @@ module _ {A B : Type 0} (refuse : Answer → A) (outcome : A) (report : Answer �
       (λ answer refuses isRefused. ap refuse (sym (reports answer)))
       (λ fails isRefused. absurd (isRefused accepts))
 
-  -- none of them holds, so both effects happen
+  -- where none of the tests holds, the outcome and the function's own effect both happen
   pub none-stops : numberOf (answerOf (unless report tests done)) ≡ 0 →
       (unless refuse tests outcome ≡ outcome) × (unless report tests done ≡ done) × AllFail tests
   none-stops =
@@ -92,7 +92,7 @@ module _ {A B : Type 0} (refuse : Answer → A) (outcome : A) (report : Answer �
       (λ answer refuses isAccepted. absurd (not-zero answer refuses (ap numberOf (sym (reports answer)) ∙ isAccepted)))
       (λ fails isAccepted. (refl, refl, fails))
 
--- The same for code that asks for the first refusal, then for what other tests say.
+-- Code that asks for the first refusal, then for what other tests say: what it may say once it looks at the first refusal's number.
 module _ {A : Type 0} (refuse : Answer → A) (outcome : A) (more tests : List Test) (refusals : AllRefuse tests) where
   pub stops : (numberOf (firstRefusal tests) ≡ 0 → ⊥) → unless refuse (tests ++ more) outcome ≡ refuse (firstRefusal tests)
   unfolding firstRefusal

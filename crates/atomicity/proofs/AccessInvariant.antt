@@ -11,7 +11,7 @@ use lib.ListN.{length, getD, set, replicate, getD-replicate}
 use lib.Seq.{getD-set-same, getD-set-other}
 use Rattle.sizes.specs.Sizes.{threadCount}
 use Rattle.cache.specs.Cache.{cellCount}
-use Rattle.accesses.specs.Clocks.{accessPlace, loadedOf, loggedCellOf}
+use Rattle.accesses.specs.Accesses.{accessPlace, loadedOf, loggedCellOf}
 use Rattle.accesses.specs.declared.Accesses.{Accesses}
 use Rattle.atomicity.specs.History.{Fed, stepAt}
 use Rattle.atomicity.specs.HappensBefore.{HappensBefore}
@@ -76,7 +76,7 @@ accessed-start = record {
 }
 
 module _ (history : List Fed) (next : Fed) where
-  -- an old step of a sort stays one, and the next one is one
+  -- a step of a sort stays one when the next step comes, and the next step is one if it is of the sort
   took-stays : {Sort : Fed → Type 0} {place : ℕ} → Took history Sort place → Took (andThen history next) Sort place
   took-stays {Sort} {place} took =
       let stays = step-stays history (next ∷ []) place (accepted-inside history place (took .isAccepted)) in
@@ -178,7 +178,7 @@ module _ (history : List Fed) (next : Fed) where
   }
 
   module _ (accesses : Accesses) (accessed : Accessed accesses history) where
-    -- a refused step, and one that is no access, keep it
+    -- a refused step, and one that is no access, keep what the stamps say of the history
     pub accessed-refused : next .accepted ≡ false → Accessed accesses (andThen history next)
     accessed-refused isRefused = record {
       stamps = λ cell thread isCell isThread.

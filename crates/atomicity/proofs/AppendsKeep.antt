@@ -16,22 +16,22 @@ use Rattle.cache.specs.Cache.{cachedAt}
 use Rattle.undo.specs.Events.{syncCount, kindOf, placeOf, enterOf, closesOf}
 use Rattle.log.specs.Entries.{appendTests, appendOf}
 use Rattle.undo.specs.Regions.{isRelease, loggedOf}
-use Rattle.ring.specs.Ring.{grownTail, closedBy}
+use Rattle.append.specs.Append.{grownTail, closedBy}
 use Rattle.undo.specs.declared.Event.{Event}
 use Rattle.undo.specs.declared.Event.the-variants.{Empty, Store, Acquire, Release}
 use Rattle.undo.specs.declared.Found.the-variants.{Nowhere}
 use Rattle.log.specs.declared.Log.{Log}
 use Rattle.undo.specs.declared.SyncCount.{SyncCount}
-use Rattle.ring.specs.declared.Releasing.the-variants.{Nothing, Lock}
+use Rattle.tail.specs.declared.Releasing.the-variants.{Nothing, Lock}
 use Rattle.undo.proofs.UndoInvariant.{UndoHolds, withEvent, enter-holds}
 use Rattle.undo.proofs.LoggedLaws.{logged-nowhere}
-use Rattle.accesses.specs.Clocks.{loggedCellOf}
+use Rattle.accesses.specs.Accesses.{loggedCellOf}
 use Rattle.machine.specs.Effects.{logEffect, acquireEffect, logReleaseEffect, effect}
 use Rattle.locks.specs.Locks.{noLock}
 use Rattle.machine.specs.Holds.{lockOf}
 use Rattle.kinds.specs.Kinds.{LOG, ACQUIRE, LOGREL}
 use Rattle.accesses.specs.declared.Accesses.{Accesses}
-use Rattle.accesses.specs.declared.Clock.{Clock}
+use Rattle.clocks.specs.declared.Clock.{Clock}
 use Rattle.locks.specs.declared.Holder.the-variants.{Thread}
 use Rattle.locks.specs.declared.Lock.{Lock as LockState}
 use Rattle.machine.specs.declared.Machine.{Machine}
@@ -106,7 +106,7 @@ record AppendStep (machine : Machine) (thread kind place : ℕ) (event : Event) 
   acquireHas : {lock : ℕ} {count : SyncCount} → event ≡ Acquire lock count → count ≡ lockOf machine lock .count
   releaseHas : {lock : ℕ} {count : SyncCount} → event ≡ Release lock count →
       (count ≡ lockOf machine lock .count) × (lockOf machine lock .holder ≡ Thread thread)
-  -- the thread then releases a lock only by this RELEASE
+  -- after the step the thread is releasing a lock only if the entry is a RELEASE of that lock with its count
   closes : {lock : ℕ} → closedBy Nothing (closesOf event) ≡ Lock lock → event ≡ Release lock (lockOf machine lock .count)
   lockKept : (lock : ℕ) → LockKept thread event lock (lockOf machine lock) (getD locks lock noLock)
 

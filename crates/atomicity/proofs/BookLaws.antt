@@ -70,7 +70,7 @@ first-later {test} {region} {regions} {place} fails first =
       before = later test region regions place fails (first .before);
     }
 
--- one region less in front
+-- without the region in front, a first place other than 0 is one less
 pub first-rest : {test : Region → Bool} {region : Region} {regions : List Region} {place : ℕ} →
     First test (region ∷ regions) (suc place) → First test regions place
 first-rest first = record {
@@ -79,7 +79,7 @@ first-rest first = record {
   before = λ earlier under. first .before (suc earlier) (omega arith);
 }
 
--- there is a first place, or none
+-- there is a first place whose region the test holds of, or the test holds of no region
 pub first-or-none : (test : Region → Bool) (regions : List Region) → ((place : ℕ) × First test regions place) ⊎ NoneOf test regions
 first-or-none test [] = inr (λ place under. absurd (not-suc-le-zero under))
 first-or-none test (region ∷ regions) = by-test (test region) refl (first-or-none test regions)
@@ -140,7 +140,7 @@ commit-length thread regions =
     (λ fails. ap length (commit-none thread regions fails))
     (first-or-none (isUncommittedOf thread) regions)
 
--- the region that is committed, and each other one
+-- commitOldest commits the thread's first uncommitted region, and leaves every other one as it was
 pub region-committed : (thread : ℕ) (regions : List Region) (place : ℕ) → First (isUncommittedOf thread) regions place →
     regionAt (commitOldest thread regions) place ≡ committedOf (regionAt regions place)
 region-committed thread regions place first =

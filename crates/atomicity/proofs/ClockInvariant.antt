@@ -9,8 +9,8 @@ use native.Mathlib.Decide.{ℕ-discrete}
 use native.Mathlib.Omega.{arith}
 use lib.ListN.{length, getD, set, replicate, getD-replicate}
 use Rattle.sizes.specs.Sizes.{threadCount, lockCount}
-use Rattle.accesses.specs.Clocks.{clockAt, joinOf, raisedOf, noClock, startClocks}
-use Rattle.accesses.specs.declared.Clock.{Clock}
+use Rattle.clocks.specs.Clocks.{clockAt, joinOf, raisedOf, noClock, startClocks}
+use Rattle.clocks.specs.declared.Clock.{Clock}
 use Rattle.atomicity.specs.History.{Fed, stepAt}
 use Rattle.atomicity.specs.HappensBefore.{HappensBefore}
 use Rattle.atomicity.proofs.Ordered.{andThen, StepOf, ReleaseOf, Reaches, next-of-thread}
@@ -18,7 +18,7 @@ use Rattle.atomicity.proofs.Epochs.{releases, releases-grow, releases-r
 use Rattle.atomicity.proofs.Knowledge.{Knows, KnowsNext, knows-refused, knows-other, knows-next, next-known, next-acquire-known}
 use Rattle.atomicity.proofs.Knowledge.{next-raised}
 use Rattle.answer.proofs.ListCases.{set-cases}
-use Rattle.accesses.proofs.ClockLaws.{clockAt-join, clockAt-raised-other, clockAt-raised-own, clockAt-none, start-raised}
+use Rattle.clocks.proofs.ClockLaws.{clockAt-join, clockAt-raised-other, clockAt-raised-own, clockAt-none, start-raised}
 
 -- a clock of a list of clocks, as its numbers
 abbrev pub numbersOf : List Clock → ℕ → ℕ → ℕ
@@ -52,7 +52,7 @@ clocked-start = record {
     }
 
 module _ (clocks lockClocks : List Clock) (history : List Fed) (next : Fed) (clocked : Clocked clocks lockClocks history) where
-  -- a refused step keeps it
+  -- a refused step keeps what the clocks say of the history
   pub clocked-refused : next .accepted ≡ false → Clocked clocks lockClocks (andThen history next)
   clocked-refused isRefused = record {
     own = λ thread inRange. rw (releases-refused history next thread isRefused) (clocked .own thread inRange);
@@ -91,7 +91,7 @@ module _ (clocks lockClocks : List Clock) (history : List Fed) (next : Fed) (clo
         knows-next history next (StepOf (next .thread)) numbers isAccepted refl
         (λ place wasAccepted reached. next-of-thread history next isAccepted reached) isCounted knows
 
-    -- an accepted step other than ACQUIRE (4) and RELEASE (6) keeps it
+    -- an accepted step other than ACQUIRE (4) and RELEASE (6) keeps what the clocks say of the history
     pub clocked-plain : next .kind ≢ 4 → next .kind ≢ 6 → Clocked clocks lockClocks (andThen history next)
     clocked-plain notAcquire notRelease = record {
       own = λ thread isThread. rw (releases-kind history next thread notRelease) (clocked .own thread isThread);
@@ -109,7 +109,7 @@ module _ (clocks lockClocks : List Clock) (history : List Fed) (next : Fed) (clo
     }
 
     module _ (whole : length clocks ≡ threadCount) where
-      -- an accepted ACQUIRE (4) that joins the lock's clock into the thread's keeps it
+      -- an accepted ACQUIRE (4) that joins the lock's clock into the thread's keeps what the clocks say of the history
       pub clocked-acquire : next .kind ≡ 4 → next .place < lockCount →
           Clocked (set clocks (next .thread) (joinOf (getD clocks (next .thread) noClock) (getD lockClocks (next .place) noClock)))
           lockClocks (andThen history next)
@@ -161,8 +161,8 @@ module _ (clocks lockClocks : List Clock) (history : List Fed) (next : Fed) (clo
                 counts = λ place wasAccepted last. rw clockAt-join (knows .counts place wasAccepted last);
               }
 
-      -- an accepted RELEASE (6) that gives the lock the thread's clock and raises the thread's own number keeps it, if the thread knew
-      -- all that the lock did
+      -- an accepted RELEASE (6) that gives the lock the thread's clock and raises the thread's own number keeps what the clocks say of
+      -- the history, if the thread knew all that the lock did
       pub clocked-release : length lockClocks ≡ lockCount → next .kind ≡ 6 → next .place < lockCount →
           ((other : ℕ) → numbersOf lockClocks (next .place) other ≤ numbersOf clocks (next .thread) other) →
           Clocked (set clocks (next .thread) (raisedOf (getD clocks (next .thread) noClock) (next .thread)))

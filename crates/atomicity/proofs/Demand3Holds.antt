@@ -88,7 +88,7 @@ begin-recovers cells logs isLength all steps buffer isBuffer =
     buffer
     isBuffer
 
--- and so it does from the start call, over any two buffers that 21 lets pass
+-- from the start call, over any two buffers that 21 lets pass, every list of steps recovers to the reference model's cells
 pub cut-recovers : (words : List ℕ) (steps : List Step) (image buffer : List ℕ) → length image ≡ imageWords → length buffer ≡ cellCount
     → Recovers words steps image buffer
 cut-recovers words steps image buffer isImage isBuffer =
@@ -104,11 +104,11 @@ cut-recovers words steps image buffer isImage isBuffer =
       closed = closed-regions runHolds;
     }
 
--- for every start, every list of steps and every cut
+-- demand 3 holds, for every start, every list of steps and every cut
 pub demand-3 : Demand3
 demand-3 words steps cut image buffer within isImage isBuffer = cut-recovers words (take cut steps) image buffer isImage isBuffer
 
--- and whatever lawful order the entries are undone in
+-- every lawful order of undoing that takes all present entries ends in the reference model's cells
 pub any-lawful-order : AnyOrder
 any-lawful-order words steps cut end within undoing allTaken =
     let runHolds = after-run words (take cut steps) in

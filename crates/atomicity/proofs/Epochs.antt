@@ -45,14 +45,14 @@ module _ (history : List Fed) (next : Fed) (thread : ℕ) where
   pub releases-thread : next .thread ≢ thread → releases (andThen history next) thread ≡ releases history thread
   releases-thread isOther = releases-stay (rw (ne-eqb (next .thread) thread isOther, and-false))
 
-  -- an accepted RELEASE is one more
+  -- an accepted RELEASE of the thread adds one to the number of its RELEASE steps
   pub releases-more : next .accepted ≡ true → next .kind ≡ 6 → next .thread ≡ thread →
       releases (andThen history next) thread ≡ suc (releases history thread)
   releases-more isAccepted isRelease isThread =
       releases-next history next thread ∙
       rw (isAccepted, eq-eqb (next .kind) 6 isRelease, eq-eqb (next .thread) thread isThread) (omega arith)
 
-  -- and they never become fewer
+  -- the number of a thread's RELEASE steps never falls
   pub releases-grow : releases history thread ≤ releases (andThen history next) thread
   releases-grow = omega (arith, releases-next history next thread)
 

@@ -101,7 +101,7 @@ module _ (P : Machine → List Fed → Type 0)
     (onEffect : (machine : Machine) (history : List Fed) → P machine history → (kind : Kind) (thread place value : ℕ) →
     AllFail (testsOf machine kind thread place value) →
     P (effect machine kind thread place value .machine) (andThen history (tookStep kind thread place value))) where
-  -- every step keeps it
+  -- what each refused step and each effect keeps, every step keeps
   pub step-keeps-history : (machine : Machine) (history : List Fed) → P machine history → (step : Step) →
       P (stepWith machine step .machine) (andThen history (fedWith step (isAccepted (stepWith machine step .answer))))
   step-keeps-history machine history holds step =
@@ -118,7 +118,7 @@ module _ (P : Machine → List Fed → Type 0)
       (effect-accepted machine kind (step .thread) (step .place) (step .value), kind-number (step .kind) kind isKind)
       (onEffect machine history holds kind (step .thread) (step .place) (step .value) fails))
 
-  -- and so does every list of steps
+  -- what each refused step and each effect keeps, every list of steps keeps
   pub run-keeps : (machine : Machine) (history : List Fed) → P machine history → (steps : List Step) →
       P (after machine steps) (history ++ historyOf machine steps)
   unfolding after historyOf

@@ -10,21 +10,21 @@ use lib.ListN.{length, getD, set, replicate}
 use lib.Seq.{getD-set-same, getD-set-other, set-out}
 use borrow.Author.Tests.{eqb-true}
 use Rattle.sizes.specs.Sizes.{threadCount, lockCount}
-use Rattle.ring.specs.Ring.{isReleasingLock}
+use Rattle.tail.specs.Tail.{isReleasingLock}
 use Rattle.log.specs.declared.Log.{Log}
-use Rattle.ring.specs.declared.Releasing.{Releasing}
-use Rattle.ring.specs.declared.Releasing.the-variants.{Nothing, Lock as ReleasingLock}
-use Rattle.accesses.specs.Clocks.{clockAt, joinOf, raisedOf, noClock}
+use Rattle.tail.specs.declared.Releasing.{Releasing}
+use Rattle.tail.specs.declared.Releasing.the-variants.{Nothing, Lock as ReleasingLock}
+use Rattle.clocks.specs.Clocks.{clockAt, joinOf, raisedOf, noClock}
 use Rattle.machine.specs.Holds.{noLog}
 use Rattle.locks.specs.Locks.{noLock, isHeld, isHeldBy}
 use Rattle.machine.proofs.AcceptedMeans.{held-by-nobody}
 use Rattle.machine.proofs.Beginnings.{AllIdle, releases-nothing}
-use Rattle.accesses.specs.declared.Clock.{Clock}
+use Rattle.clocks.specs.declared.Clock.{Clock}
 use Rattle.locks.specs.declared.Holder.{Holder}
 use Rattle.locks.specs.declared.Holder.the-variants.{Nobody, Thread}
 use Rattle.locks.specs.declared.Lock.{Lock}
 use Rattle.answer.proofs.ListCases.{set-cases, replicate-cases}
-use Rattle.accesses.proofs.ClockLaws.{clockAt-join, clockAt-raised-other, clockAt-raised-own}
+use Rattle.clocks.proofs.ClockLaws.{clockAt-join, clockAt-raised-other, clockAt-raised-own}
 use Rattle.atomicity.proofs.ClockInvariant.{numbersOf}
 
 -- the lock that a thread is releasing, and the holder of a lock
@@ -66,7 +66,7 @@ begin-held logs all clocks lockClocks = record {
 }
 
 module _ (logs : List Log) (locks : List Lock) (clocks lockClocks : List Clock) (held : Held logs locks clocks lockClocks) where
-  -- another log of a thread keeps it, if the thread holds the lock that it then releases
+  -- another log of a thread keeps what holders and closing threads say of the clocks, if the thread holds the lock that it releases
   pub held-log : (thread : ℕ) (log : Log) → thread < length logs →
       ((lock : ℕ) → log .tail .releasing ≡ ReleasingLock lock → holderOf locks lock ≡ Thread thread) →
       Held (set logs thread log) locks clocks lockClocks
@@ -85,7 +85,7 @@ module _ (logs : List Log) (locks : List Lock) (clocks lockClocks : List Clock) 
         other;
   }
 
-  -- another state of a lock with the same holder keeps it
+  -- another state of a lock with the same holder keeps what holders and closing threads say of the clocks
   pub held-lock : (lock : ℕ) (state : Lock) → state .holder ≡ holderOf locks lock → Held logs (set locks lock state) clocks lockClocks
   held-lock lock state sameHolder = record {
     knowsLock = λ other thread isHolder. held .knowsLock other thread (rw (stays other) at isHolder);

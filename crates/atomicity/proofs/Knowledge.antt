@@ -21,7 +21,7 @@ pub record Knows (history : List Fed) (Sort : Fed → Type 0) (numbers : ℕ →
   pub counts : (place : ℕ) → stepAt history place .accepted ≡ true → Reaches history Sort place →
       epochAt history place ≤ numbers (stepAt history place .thread)
 
--- they are at least the epochs of just those steps that happen before the next step
+-- the numbers, one for each thread, are at least the epochs of just those steps that happen before the next step
 pub record KnowsNext (history : List Fed) (next : Fed) (numbers : ℕ → ℕ) : Type 0 where
   pub before : (place : ℕ) → stepAt history place .accepted ≡ true →
       epochAt history place ≤ numbers (stepAt history place .thread) →
@@ -79,7 +79,7 @@ module _ (history : List Fed) (next : Fed) where
         (λ isAccepted counted. absurd (false≢true (sym isRefused ∙ isAccepted)))
         (λ isAccepted reached. absurd (false≢true (sym isRefused ∙ isAccepted)))
 
-    -- nor does a step of another sort, where the numbers are below its epoch
+    -- a step of another sort changes nothing of what is known, where its thread's number is below its epoch
     pub knows-other : (Sort next → ⊥) → numbers (next .thread) ≤ releases history (next .thread) →
         Knows history Sort numbers → Knows (andThen history next) Sort numbers
     knows-other isOther isBelow knows =
@@ -125,7 +125,7 @@ module _ (history : List Fed) (next : Fed) where
           ⊎-elim (knows .counts place wasAccepted) (λ byLock. absurd (isOther (byLock .0))) (next-comes-after history next last);
     }
 
-    -- for an ACQUIRE it is that with what the lock's RELEASE steps knew
+    -- what happens before a thread's next ACQUIRE (4) is what the thread knows and what the lock's RELEASE steps knew
     pub next-acquire-known : (lockNumbers : ℕ → ℕ) → next .kind ≡ 4 →
         Knows history (ReleaseOf (next .place)) lockNumbers →
         KnowsNext history next (λ thread. max (numbers thread) (lockNumbers thread))

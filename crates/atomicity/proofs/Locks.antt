@@ -9,8 +9,8 @@ use mathlib.Core.Logic.{_⊎_, inl, inr, ⊎-elim, by-cases}
 use Rattle.undo.specs.Events.{syncCount}
 use Rattle.undo.specs.declared.Event.{Event}
 use Rattle.undo.specs.declared.Event.the-variants.{Acquire, Release}
-use Rattle.ring.specs.declared.Releasing.{Releasing}
-use Rattle.ring.specs.declared.Releasing.the-variants.{Nothing, Lock}
+use Rattle.tail.specs.declared.Releasing.{Releasing}
+use Rattle.tail.specs.declared.Releasing.the-variants.{Nothing, Lock}
 use Rattle.locks.specs.declared.Holder.{Holder}
 use Rattle.locks.specs.declared.Holder.the-variants.{Nobody, Thread}
 use Rattle.atomicity.proofs.Logged.{Entries, Made, IsReleaseOf, IsAcquireOf, Keeps, Appends, still-is, was, kept-is, new-is}
@@ -34,7 +34,7 @@ pub record LocksHold (entries : Entries) (locks : Locks) : Type 0 where
   -- a RELEASE entry's step was taken, and then the count is larger, or it waits
   pub state : {thread number lock count : ℕ} → IsReleaseOf entries thread number lock count →
       (count < locks .count lock) ⊎ Waits entries locks thread number lock count
-  -- one whose step was taken is durable
+  -- a RELEASE entry whose step was taken is durable
   pub durable : {thread number lock count : ℕ} → IsReleaseOf entries thread number lock count →
       count < locks .count lock → number ≤ entries .durable thread
   pub acquireCount : {thread number lock count : ℕ} → IsAcquireOf entries thread number lock count → count ≤ locks .count lock
@@ -92,7 +92,7 @@ pub record SameLocks (old new : Locks) : Type 0 where
   pub holderSame : (lock : ℕ) → new .holder lock ≡ old .holder lock
   pub countSame : (lock : ℕ) → new .count lock ≡ old .count lock
 
--- no entry more, and the same holders and counts
+-- a step that makes no entry, and leaves holders, counts and the locks being released, keeps what holds of the locks
 pub locks-keep : {old new : Entries} {now : ℕ} {locks after : Locks} → Keeps old new now → SameLocks locks after →
     LocksHold old locks → LocksHold new after
 locks-keep {old} {new} {now} {locks} {after} keeps same holds = record {
@@ -130,7 +130,7 @@ locks-keep {old} {new} {now} {locks} {after} keeps same holds = record {
       (found .0, still-is (keeps .grows) (found .1), found .2);
 }
 
--- the same heads, and as many pruned RELEASEs, of at least as many
+-- a step that makes no entry, moves no head, prunes no RELEASE and lowers no count keeps what holds of what is pruned
 pub prunes-keep : {old new : Entries} {now : ℕ} {locks after : Locks} → Keeps old new now →
     ((thread : ℕ) → new .head thread ≡ old .head thread) → ((lock : ℕ) → after .pruned lock ≡ locks .pruned lock) →
     ((lock : ℕ) → locks .count lock ≤ after .count lock) → PrunesHold old locks → PrunesHold new after
@@ -161,7 +161,7 @@ pub record AppendLocks (old new : Entries) (now thread : ℕ) (event : Event) (l
   -- who holds a lock now held it, or acquired it just now
   pub holderCases : {other lock : ℕ} → after .holder lock ≡ Thread other →
       (locks .holder lock ≡ Thread other) ⊎ ((other ≡ thread) × (event ≡ Acquire lock (syncCount (locks .count lock))))
-  -- the thread releases a lock now only by this RELEASE
+  -- after the append the thread is releasing a lock only if the event is a RELEASE of that lock with its count
   pub releasingNew : {lock : ℕ} → after .releasing thread ≡ Lock lock → event ≡ Release lock (syncCount (locks .count lock))
 
 module _ {old new : Entries} {now thread : ℕ} {event : Event} {locks after : Locks}

@@ -45,12 +45,12 @@ pub record Grows (old new : Entries) (now : ℕ) : Type 0 where
   pub headGrows : (thread : ℕ) → old .head thread ≤ new .head thread
   pub durableGrows : (thread : ℕ) → old .durable thread ≤ new .durable thread
 
--- no entry more
+-- a step at this place of the history that makes no entry
 pub record Keeps (old new : Entries) (now : ℕ) : Type 0 where
   pub grows : Grows old new now
   pub nextSame : (thread : ℕ) → new .next thread ≡ old .next thread
 
--- one entry more, of this thread
+-- a step at this place of the history that makes one entry more, of this thread
 pub record Appends (old new : Entries) (now thread : ℕ) (event : Event) : Type 0 where
   pub grows : Grows old new now
   pub nextMore : new .next thread ≡ suc (old .next thread)
@@ -69,7 +69,7 @@ module _ {old new : Entries} {now : ℕ} (grows : Grows old new now) where
     says = grows .saysSame thread number (is .made) ∙ is .says;
   }
 
-  -- it says what it said
+  -- an entry that was there says what it said
   pub was : {thread number : ℕ} {event : Event} → Made old thread number → Is new thread number event → Is old thread number event
   was {thread} {number} made is = record {
     made = made;
@@ -83,12 +83,12 @@ module _ {old new : Entries} {now : ℕ} (keeps : Keeps old new now) where
     below = rw (keeps .nextSame thread) at (made .below);
   }
 
-  -- what is there now was there
+  -- an entry that is there now was there before
   pub kept-is : {thread number : ℕ} {event : Event} → Is new thread number event → Is old thread number event
   kept-is is = was (keeps .grows) (made-kept (is .made)) is
 
 module _ {old new : Entries} {now thread : ℕ} {event : Event} (appends : Appends old new now thread event) where
-  -- what is there now was there, or is the one new entry
+  -- an entry that is there now was there before, or is the one new entry
   pub made-cases : {other number : ℕ} → Made new other number → Made old other number ⊎ ((other ≡ thread) × (number ≡ old .next thread))
   made-cases {other} {number} made =
       by-cases

@@ -61,7 +61,7 @@ module _ {entries : Entries} {locks : Locks} (prunes : PrunesHold entries locks)
   older-pruned (linked link chain) (leads-to leads) pruned thread number (there isIn) =
       older-pruned chain (link .ordered) (leads-pruned prunes leads pruned) thread number isIn
 
-  -- the newest version is pruned: all are
+  -- where the newest version is pruned, all versions are
   newest-pruned : {start cell : ℕ} {version : Version} {older : List Version} → Link entries start cell version older →
       Chain entries start cell older → version .lsn < entries .head (version .thread) →
       AllPruned entries (version ∷ older)
@@ -73,7 +73,7 @@ module _ {entries : Entries} {locks : Locks} (prunes : PrunesHold entries locks)
   newest-pruned link chain pruned thread number (there isIn) =
       older-pruned chain (link .ordered) pruned thread number isIn
 
-  -- a version that is this point
+  -- what leads to a point leads to an equal one
   leads-here : {thread number before earlier other later : ℕ} → Leads entries thread number before earlier →
       before ≡ other → earlier ≡ later → Leads entries thread number other later
   leads-here {thread} {number} {before} {earlier} {other} {later} leads isThread isNumber =
@@ -82,14 +82,14 @@ module _ {entries : Entries} {locks : Locks} (prunes : PrunesHold entries locks)
       isThread
       (subst (λ (n : ℕ). Leads entries thread number before n) isNumber leads)
 
-  -- the newest version is the oldest live one
+  -- where all older versions are pruned, the newest version leads to every live one
   only-newest : {version : Version} {older : List Version} → AllPruned entries older → (other later : ℕ) →
       In other later (version ∷ older) → entries .head other ≤ later →
       Leads entries (version .thread) (version .lsn) other later
   only-newest pruned other later (here isThread isNumber) live = leads-here (inThread (omega arith)) isThread isNumber
   only-newest pruned other later (there isIn) live = let gone = pruned other later isIn in absurd (omega arith)
 
-  -- an older one is
+  -- the oldest live one of the older versions leads to every live version, the newest included
   leads-newer : {start cell : ℕ} {version : Version} {older : List Version} (oldest : Oldest entries start cell older) →
       NewestLeads entries (version .thread) (version .lsn) older → (other later : ℕ) →
       In other later (version ∷ older) → entries .head other ≤ later →
@@ -101,7 +101,7 @@ module _ {entries : Entries} {locks : Locks} (prunes : PrunesHold entries locks)
       NewestLeads entries other later (version ∷ older) → Leads entries (version .thread) (version .lsn) other later
   leads-self (leads-to leads) = leads
 
-  -- all are pruned and the newest decides, or there is an oldest live version
+  -- all versions are pruned and the newest content is the pruned one, or there is an oldest live version
   pub oldest-live : {start cell : ℕ} {versions : List Version} → Chain entries start cell versions →
       (AllPruned entries versions × (prunedValue entries start versions ≡ latest start versions)) ⊎ Oldest entries start cell versions
   oldest-live unlogged = inl ((λ thread number isIn. in-nothing isIn), refl)

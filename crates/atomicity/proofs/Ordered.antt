@@ -73,7 +73,7 @@ module _ (history more : List Fed) where
       (rw (old, new) same)
   before-stays (through first second) = through (before-stays first) (before-stays second)
 
-  -- and no more happens before an old step
+  -- more steps put nothing more before an old step
   pub before-was : {i j : ℕ} → HappensBefore (history ++ more) i j → j < length history → HappensBefore history i j
   before-was (inThread {i} {j} forward one other same) inside =
       let old = step-stays history more i (omega arith) in
@@ -147,7 +147,7 @@ module _ (history : List Fed) (next : Fed) where
         isBefore = ⊎-elim (λ same. inl same) (λ before. inr (before-stays history (next ∷ []) before)) (reached .isBefore);
       }
 
-  -- what happens before an old step, or is it
+  -- what is an old step, or happens before it, in the longer history is or does so in the old one
   at-or-before-was : {place target : ℕ} → target < length history →
       (place ≡ target) ⊎ HappensBefore (andThen history next) place target →
       (place ≡ target) ⊎ HappensBefore history place target

@@ -73,7 +73,7 @@ module _ (history : List Fed) (fed : Fed) where
       ap (λ (step : Fed). madeBy given (andThen history fed) (step .thread) (suc place)) (step-before before) ∙
       made-before given (stepAt history place .thread) (suc place) before
 
--- so it is, where entries grew
+-- where entries grow by a step, the last LSN of an older step's thread after that step stays what it was
 pub last-was : {old new : Entries} (history : List Fed) (fed : Fed) → Grows old new (length history) → {place : ℕ} →
     place < length history → lastOf (new .before) (andThen history fed) place ≡ lastOf (old .before) history place
 last-was {old} history fed grows {place} before =

@@ -16,12 +16,12 @@ use Rattle.cache.specs.Cache.{isDurable}
 use Rattle.undo.specs.Events.{syncCount, liveEvent}
 use Rattle.log.specs.Entries.{liveCount, dropOf}
 use Rattle.undo.specs.Regions.{isAcquire, isRelease, oldestRegion, isFinished}
-use Rattle.ring.specs.Ring.{isReleasing}
+use Rattle.tail.specs.Tail.{isReleasing}
 use Rattle.undo.specs.declared.Event.{Event}
 use Rattle.undo.specs.declared.Event.the-variants.{Empty, Store, Acquire, Release}
 use Rattle.log.specs.declared.Log.{Log}
 use Rattle.undo.specs.declared.SyncCount.{SyncCount}
-use Rattle.ring.specs.declared.Releasing.the-variants.{Nothing}
+use Rattle.tail.specs.declared.Releasing.the-variants.{Nothing}
 use Rattle.undo.proofs.UndoInvariant.{UndoHolds, prune-holds}
 use Rattle.undo.proofs.RegionLaws.{RegionIs, live-event, oldest-region}
 use Rattle.machine.specs.Effects.{pruneEffect, countPruned, effect}
@@ -163,7 +163,7 @@ module _ {start : Beginning} {machine : Machine} {history : List Fed} {ghost : G
       (dropOf log size) inLogs (λ _. prune-holds log (ghost .event thread) holds size within-log within-durable)
       (λ other differs. machineHolds .logs other)
 
-  -- the head then stands where the next region begins
+  -- after a PRUNE the head stands where the next region begins
   head-moved : HeadAt (entriesOf start moved ghost) thread
   head-moved =
       let head = moved-head in

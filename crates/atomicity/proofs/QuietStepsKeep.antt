@@ -15,12 +15,12 @@ use Rattle.cache.specs.Cache.{cachedAt, persistedAt, lineOf, isPending, storeOf
 use Rattle.cache.specs.declared.Cache.{Cache}
 use Rattle.cache.proofs.CacheLaws as CacheLaws
 use Rattle.log.specs.Entries.{flushLogOf, fenceLogOf, evictSlotOf}
-use Rattle.ring.specs.Ring.{flushedTail, fencedTail}
+use Rattle.tail.specs.Tail.{flushedTail, fencedTail}
 use Rattle.undo.specs.declared.Event.the-variants.{Store}
 use Rattle.log.specs.declared.Log.{Log}
 use Rattle.undo.proofs.UndoInvariant.{UndoHolds, flush-holds, fence-holds, evict-holds}
 use Rattle.undo.proofs.LoggedLaws.{logged-at}
-use Rattle.accesses.specs.Clocks.{loadedOf}
+use Rattle.accesses.specs.Accesses.{loadedOf}
 use Rattle.machine.specs.Effects.{loadEffect, storeEffect, flushEffect, flushLogEffect, fenceEffect, evictEffect, evictLogEffect, effect}
 use Rattle.machine.specs.Holds.{withLog, withCache, withAccesses}
 use Rattle.accesses.specs.declared.Accesses.{Accesses}

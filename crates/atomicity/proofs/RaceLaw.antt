@@ -63,7 +63,7 @@ module _ (machine : Machine) (history : List Fed) (follows : Follows machine his
         isSort = (rw old at (conflict .isAccess), rw (old, new) at (conflict .sameCell), rw (old, new) at (conflict .oneIsLog));
       }
 
-  -- the tests are document 01's
+  -- the clock tests of the thread's next LOAD and next LOG of the cell are document 01's
   load-decides : DecidesRaces history 1 thread cell (loadRaces machine thread cell)
   load-decides = record {
     races = λ holds.
@@ -89,7 +89,7 @@ module _ (machine : Machine) (history : List Fed) (follows : Follows machine his
         (access .isAccepted) (access .isSort .0) (access .isSort .1);
   }
 
--- of every machine that steps lead to
+-- on every machine that steps lead to, the clock tests of a LOAD and a LOG are document 01's
 pub race-law : RaceLaw
 race-law words steps thread cell isThread isCell =
     let follows = start-follows words steps in (

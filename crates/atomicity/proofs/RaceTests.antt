@@ -11,7 +11,8 @@ use borrow.Author.Tests.{leb-true, leb-false, not-true, not-false}
 use Rattle.sizes.specs.Sizes.{threadCount}
 use Rattle.answer.proofs.BelowLaws.{someBelow-none, someBelow-found}
 use Rattle.cache.specs.Cache.{cellCount}
-use Rattle.accesses.specs.Clocks.{clockAt, accessPlace}
+use Rattle.clocks.specs.Clocks.{clockAt}
+use Rattle.accesses.specs.Accesses.{accessPlace}
 use Rattle.machine.specs.Clocks.{loadRaces, logRaces}
 use Rattle.machine.specs.Holds.{clockOf}
 use Rattle.machine.specs.declared.Machine.{Machine}
@@ -57,7 +58,7 @@ module _ (machine : Machine) (history : List Fed) (follows : Follows machine his
             ⊎-elim (λ same. rw same lastBefore) (λ before. through (before-stays history (next ∷ []) before) lastBefore)
             (last .othersBefore place took)
 
-    -- it holds: some LOG of the cell does not
+    -- a LOAD's test holds: some LOG of the cell does not happen before the step
     pub load-race : loadRaces machine (next .thread) cell ≡ true →
         (place : ℕ) × Took history (LogOf cell) place × (HappensBefore (andThen history next) place (length history) → ⊥)
     unfolding loadRaces
@@ -99,7 +100,7 @@ module _ (machine : Machine) (history : List Fed) (follows : Follows machine his
             follows .accessed .stamps cell thread isCell (follows .inRange place wasAccepted) .atMost place
             (record { isAccepted = wasAccepted; isSort = (isAccess, isPlace, refl) })
 
-    -- it holds: some access of the cell does not
+    -- a LOG's test holds: some access of the cell does not happen before the step
     pub log-race : logRaces machine (next .thread) cell ≡ true →
         (place : ℕ) × Took history (λ step. IsAccess (step .kind) × (step .place ≡ cell)) place ×
         (HappensBefore (andThen history next) place (length history) → ⊥)

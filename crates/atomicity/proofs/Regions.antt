@@ -97,7 +97,7 @@ boundary-was {thread} {number} grows made madeNext =
     (λ isEnd. inl (sym (ap isRelease (grows .saysSame thread number made)) ∙ isEnd))
     (λ isBegin. inr (sym (ap isAcquire (grows .saysSame thread (suc number) madeNext)) ∙ isBegin))
 
--- the same regions, of which other ones may be committed
+-- two lists have the same regions, of which other ones may be committed
 pub record SameRegions (regions after : List Region) : Type 0 where
   pub lengthSame : length after ≡ length regions
   pub threadSame : (place : ℕ) → regionAt after place .thread ≡ regionAt regions place .thread
@@ -140,7 +140,7 @@ regions-recommit {old} {new} {now} {regions} {after} {home} keeps alike isCommit
     last-was : {thread number : ℕ} → Unended new thread number → Unended old thread number
     last-was {thread} last = unended-was (keeps .grows) (keeps .nextSame thread) (made-kept keeps (last .made)) last
 
--- no entry more, and the same heads
+-- a step that makes no entry and moves no head keeps what holds of the regions
 pub regions-keep : {old new : Entries} {now : ℕ} {regions : List Region} {home : ℕ → ℕ → ℕ} → Keeps old new now →
     ((thread : ℕ) → new .head thread ≡ old .head thread) → RegionsHold old regions home → RegionsHold new regions home
 regions-keep keeps heads holds =
@@ -239,7 +239,7 @@ module _ {entries : Entries} {home : ℕ → ℕ → ℕ} (book : Book) (holds :
   open-is {thread} {number} last =
       open-first thread (book .regions) (home thread number) 0 (open-region holds last) ∙ ap some (zero-add (home thread number))
 
-  -- else it has none
+  -- a thread that made no entry, or whose last entry is a RELEASE, has no open region
   pub open-is-none : {thread : ℕ} → ((number : ℕ) → Unended entries thread number → ⊥) → openOf book thread ≡ none
   unfolding openOf
   open-is-none {thread} ended =

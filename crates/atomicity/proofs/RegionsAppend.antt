@@ -37,13 +37,13 @@ pub record JoinsAt (old : Entries) (thread : ℕ) (event : Event) (regions joine
   pub uncommitted : isCommittedAt joined place ≡ false
   pub threadSame : (other : ℕ) → other < length regions → regionAt joined other .thread ≡ regionAt regions other .thread
   pub committedSame : (other : ℕ) → other < length regions → isCommittedAt joined other ≡ isCommittedAt regions other
-  -- it is the thread's open region, unless the entry ends it; the other threads' open regions stay
+  -- the region that is joined is the thread's open one, unless the entry ends it; the other threads' open regions stay
   pub openSelf : regionAt joined place .isOpen ≡ not (isRelease event)
   pub openOnly : (other : ℕ) → other < length joined → regionAt joined other .thread ≡ thread →
       regionAt joined other .isOpen ≡ true → other ≡ place
   pub openOther : (other : ℕ) → other < length regions → (regionAt regions other .thread ≡ thread → ⊥) →
       regionAt joined other .isOpen ≡ regionAt regions other .isOpen
-  -- it is the last entry's region, unless a region ended after that entry
+  -- the region that is joined is that of the thread's last entry, unless a region ended after that entry
   pub sameRegion : (number : ℕ) → Unended old thread number → isAcquire event ≡ false → home thread number ≡ place
   pub nextRegion : (number : ℕ) → Made old thread number → suc number ≡ old .next thread →
       (isRelease (old .event thread number) ≡ true) ⊎ (isAcquire event ≡ true) → length regions ≤ place
@@ -82,7 +82,7 @@ module _ {old new : Entries} {now thread : ℕ} {event : Event} {regions joined 
       record { since = rw (step .appends .grows .beforeSame) at (last .made .since); below = rw unchanged at (last .made .below) } in
       rw (step .homeKept other number before) (was other number differs (unended-was (step .appends .grows) unchanged before last)))
 
-  -- another thread's last entry
+  -- another thread's last entry stays its last one, in the region where it stood
   still-last : {other found : ℕ} → new .next other ≡ old .next other →
       (number : ℕ) × Unended old other number × (home other number ≡ found) →
       (number : ℕ) × Unended new other number × (after other number ≡ found)
@@ -92,7 +92,7 @@ module _ {old new : Entries} {now thread : ℕ} {event : Event} {regions joined 
     step .homeKept other (last .0) (last .1 .made) ∙ last .2,
   )
 
-  -- the last entry stands in this region or in one before
+  -- the thread's last entry stands in the region that is joined or in one before
   last-before : (number : ℕ) → Made old thread number → suc number ≡ old .next thread → home thread number ≤ place
   last-before number made isLast = by-ends (isRelease (old .event thread number)) refl (isAcquire event) refl
     where
@@ -110,7 +110,7 @@ module _ {old new : Entries} {now thread : ℕ} {event : Event} {regions joined 
           let equal = joining .sameRegion number (record { made = made; isLast = isLast; noRelease = isEnd }) isBegin in
           omega arith
 
-  -- and so does each older one
+  -- each entry that the thread had made stands in the region that is joined or in one before
   all-before : (number : ℕ) → Made old thread number → home thread number ≤ place
   all-before number made =
       let since = made .since in
@@ -266,7 +266,7 @@ record Closes (thread : ℕ) (regions closed : List Region) : Type 0 where
   openOther : (other : ℕ) → other < length regions → (regionAt regions other .thread ≡ thread → ⊥) →
       regionAt closed other .isOpen ≡ regionAt regions other .isOpen
 
--- they are so already where the last entry ended its region
+-- where the last entry ended its region, the regions have no open one of the thread already
 closes-ended : {entries : Entries} {regions : List Region} {home : ℕ → ℕ → ℕ} {thread : ℕ} →
     RegionsHold entries regions home → ((number : ℕ) → Unended entries thread number → ⊥) →
     Closes thread regions regions
@@ -278,7 +278,7 @@ closes-ended holds ended = record {
   openOther = λ other under differs. refl;
 }
 
--- and after the open one is ended
+-- once a thread's open region is ended, the regions have no open one of the thread, and are else the same
 closes-open : (thread : ℕ) (regions : List Region) → Closes thread regions (map (endOf thread) regions)
 closes-open thread regions = record {
   lengthSame = ended-length thread regions;
@@ -438,7 +438,7 @@ pub regions-release : {old new : Entries} {now thread lock : ℕ} {count : SyncC
 regions-release book step holds =
     regions-join step (joins-ending refl refl (joins-or-opens {event = Empty} book holds refl refl)) holds
 
--- and the book says that LOG (2), ACQUIRE (4) and LOGREL (5) joined the region in which the new entry stands
+-- the book says that LOG (2), ACQUIRE (4) and LOGREL (5) joined the region in which the new entry stands
 pub joins-log-home : {old new : Entries} {now thread : ℕ} {event : Event} {home after : ℕ → ℕ → ℕ} (book : Book) →
     AppendRegions old new now thread event home after (joinedPlace book thread) →
     joins book 2 thread ≡ some (after thread (old .next thread))
@@ -454,11 +454,11 @@ pub joins-release-home : {old new : Entries} {now thread : ℕ} {event : Event} 
     joins book 5 thread ≡ some (after thread (old .next thread))
 joins-release-home {thread} book step = joins-release book thread ∙ ap some (sym (step .homeNew))
 
--- the homes with one more entry's
+-- the place of each entry's region, with one more entry's
 abbrev pub withHome : (ℕ → ℕ → ℕ) → ℕ → ℕ → ℕ → ℕ → ℕ → ℕ
 withHome home thread number place other asked = cond (eqb other thread && eqb asked number) place (home other asked)
 
--- what each append needs of them
+-- with the new entry's region added, the entries that were there stand where they stood, and the new one at this place
 pub append-homes : {old new : Entries} {now thread : ℕ} {event : Event} (home : ℕ → ℕ → ℕ) (place : ℕ) →
     Appends old new now thread event → old .head thread ≤ old .next thread →
     AppendRegions old new now thread event home (withHome home thread (old .next thread) place) place

@@ -29,7 +29,7 @@ pub record PruneRegions (old new : Entries) (now thread size : ℕ) : Type 0 whe
       isAcquire (old .event thread number) ≡ false
   pub releaseLast : (number : ℕ) → old .head thread ≤ number → suc number < old .head thread + size →
       isRelease (old .event thread number) ≡ false
-  -- another region begins after it, and it is finished
+  -- an entry that follows the pruned region begins another one, and the pruned region is finished
   pub ends : old .head thread + size < old .next thread →
       (isAcquire (old .event thread (old .head thread + size)) ≡ true) ⊎
       (isRelease (old .event thread (old .head thread + size - 1)) ≡ true)
@@ -80,7 +80,7 @@ module _ {entries : Entries} {regions : List Region} {home : ℕ → ℕ → ℕ
 
 module _ {old new : Entries} {now thread size : ℕ} {regions : List Region} {home : ℕ → ℕ → ℕ}
     (step : PruneRegions old new now thread size) (holds : RegionsHold old regions home) where
-  -- the first entry of the pruned region
+  -- the thread made the first entry of the pruned region
   head-made : Made old thread (old .head thread)
   head-made =
       let since = step .headSince in
@@ -88,7 +88,7 @@ module _ {old new : Entries} {now thread size : ℕ} {regions : List Region} {ho
       let some-entry = step .notEmpty in
       record { since = omega arith; below = omega arith }
 
-  -- all its entries stand in the region of the first one
+  -- all entries of the pruned region stand in the region of the first one
   together : (count : ℕ) → count < size → home thread (old .head thread + count) ≡ home thread (old .head thread)
   together = run-together holds (old .head thread) size (step .headSince) (step .within) (step .acquireFirst) (step .releaseLast)
 
@@ -97,7 +97,7 @@ module _ {old new : Entries} {now thread size : ℕ} {regions : List Region} {ho
       let place : number ≡ old .head thread + (number - old .head thread) = omega arith in
       ap (home thread) place ∙ together (number - old .head thread) (omega arith)
 
-  -- what comes after stands in a later region
+  -- an entry after the pruned ones stands in a later region
   outside : {number : ℕ} → old .head thread + size ≤ number → Made old thread number → home thread (old .head thread) < home thread number
   outside {number} from made =
       let some-entry = step .notEmpty in
@@ -116,11 +116,11 @@ module _ {old new : Entries} {now thread size : ℕ} {regions : List Region} {ho
       let equal = inside {number = old .head thread + size - 1} (omega arith) (omega arith) in
       omega arith
 
-  -- so the region of the first live entry is the thread's first uncommitted one
+  -- the region of the first entry that is pruned is the thread's first uncommitted one
   pub oldest-region : First (isUncommittedOf thread) regions (home thread (old .head thread))
   oldest-region = oldest-uncommitted holds head-made
 
-  -- nothing but what is committed changes
+  -- committing a region changes nothing of the regions but what is committed
   same-part : {A : Type 0} (part : Region → A) → ((region : Region) → part (committedOf region) ≡ part region) →
       (place : ℕ) → part (regionAt (commitOldest thread regions) place) ≡ part (regionAt regions place)
   same-part part kept place =
@@ -139,7 +139,7 @@ module _ {old new : Entries} {now thread size : ℕ} {regions : List Region} {ho
     openSame = same-part (λ region. region .isOpen) (λ region. refl);
   }
 
-  -- an entry that stands elsewhere
+  -- the region of an entry that does not stand in the pruned one is committed just where the entry was pruned before
   elsewhere : {other number : ℕ} → Made old other number → (home other number ≡ home thread (old .head thread) → ⊥) →
       isCommittedAt (commitOldest thread regions) (home other number) ≡ ltb number (old .head other)
   elsewhere {other} {number} made differs =

@@ -11,7 +11,7 @@ use lib.Dec.{eqb}
 use Rattle.sizes.specs.Sizes.{threadCount}
 use Rattle.answer.proofs.RefusalLaws.{AllFail}
 use Rattle.undo.specs.Events.{syncCount, endReleaseOf}
-use Rattle.ring.specs.Ring.{isReleasing, releasedTail}
+use Rattle.tail.specs.Tail.{isReleasing, releasedTail}
 use Rattle.log.specs.declared.Log.{Log}
 use Rattle.undo.proofs.UndoInvariant.{UndoHolds, release-holds}
 use Rattle.machine.specs.Effects.{releaseEffect, effect}

@@ -15,10 +15,10 @@ use Rattle.sizes.specs.Sizes.{threadCount}
 use Rattle.answer.proofs.RefusalLaws.{AllFail}
 use Rattle.log.specs.Entries.{flushLogOf, fenceLogOf, evictSlotOf}
 use Rattle.undo.specs.Events.{endReleaseOf}
-use Rattle.ring.specs.Ring.{flushedTail, fencedTail, releasedTail}
+use Rattle.tail.specs.Tail.{flushedTail, fencedTail, releasedTail}
 use Rattle.undo.specs.Regions.{isRelease}
 use Rattle.undo.specs.declared.Event.{Event}
-use Rattle.accesses.specs.Clocks.{loadedOf, loggedCellOf}
+use Rattle.accesses.specs.Accesses.{loadedOf, loggedCellOf}
 use Rattle.machine.specs.Effects.{loadEffect, logEffect, storeEffect, acquireEffect, logReleaseEffect, releaseEffect, flushEffect}
 use Rattle.machine.specs.Effects.{flushLogEffect, fenceEffect, evictEffect, evictLogEffect, effect}
 use Rattle.kinds.specs.Kinds.{Kind, LOAD, LOG, STORE, ACQUIRE, LOGREL, RELEASE, FLUSH, FLUSHLOG, FENCE, PRUNE, EVICT, EVICTLOG}
@@ -54,7 +54,7 @@ use Rattle.atomicity.proofs.Writes.{WritesHold, writes-keep, writes-log
 abbrev pub bookOf : Beginning → List Fed → Book
 bookOf start history = fedBook (emptyBook (start .cells)) history
 
--- fed one step more
+-- the reference model that was fed a history and one step more is the one fed the history, and then the step
 pub book-then : (book : Book) (history : List Fed) (fed : Fed) →
     fedBook book (andThen history fed) ≡ feed (fedBook book history) (fed .kind) (fed .thread) (fed .place) (fed .value) (fed .accepted)
 unfolding fedBook
@@ -78,7 +78,7 @@ pub record RunInvariant (start : Beginning) (machine : Machine) (history : List 
   pub writes : WritesHold home (contentsOf start (machine .cache)) (ghost .versions) (bookOf start history .writes)
   pub joined : JoinsHold start history (entriesOf start machine ghost) home
 
--- the region that the step itself joins
+-- the new step stands at an entry of the region that it joins, if it joins one
 abbrev pub JoinsNew : Beginning → List Fed → Fed → Entries → (ℕ → ℕ → ℕ) → Type 0
 JoinsNew start history fed entries home =
     (region : ℕ) → fed .accepted ≡ true → joins (bookOf start history) (fed .kind) (fed .thread) ≡ some region →
@@ -86,7 +86,7 @@ JoinsNew start history fed entries home =
     (home (fed .thread) (madeBy (entries .before) (andThen history fed) (fed .thread) (suc (length history))) ≡ region)
 
 module _ (start : Beginning) {history : List Fed} {old new : Entries} (home after : ℕ → ℕ → ℕ) (fed : Fed) where
-  -- the steps before join what they joined, and the new one joins its own
+  -- each older step stands at an entry of the region that it joined, and the new one at an entry of the region that it joins
   pub joins-then : Grows old new (length history) →
       ((thread number : ℕ) → Made old thread number → after thread number ≡ home thread number) →
       JoinsHold start history old home → JoinsNew start history fed new after →
@@ -137,7 +137,7 @@ module _ {start : Beginning} {machine : Machine} {history : List Fed} (runHolds 
   abbrev ghost : Ghost
   ghost = runHolds .ghost
 
-  -- a step that makes no entry, moves no head, and that the reference model passes over
+  -- a step that makes no entry, moves no head, and that the reference model passes over keeps all concerns
   run-quiet : (after : Machine) (fed : Fed) → MachineInvariant start after (andThen history fed) ghost →
       Follows after (andThen history fed) → EntriesStay start machine after ghost (length history) →
       feed book (fed .kind) (fed .thread) (fed .place) (fed .value) (fed .accepted) ≡ book →
@@ -435,7 +435,7 @@ module _ {start : Beginning} {machine : Machine} {history : List Fed} (runHolds 
           joined = joined-append LOGREL _ region (rw (eq-eqb thread thread refl)) (asked .inThread) homes (joins-release-home book homes);
         }
 
-  -- each effect whose tests all failed keeps it
+  -- each effect whose tests all failed keeps all concerns
   pub run-effect : (kind : Kind) (thread place value : ℕ) → AllFail (testsOf machine kind thread place value) →
       RunInvariant start (effect machine kind thread place value .machine) (andThen history (tookStep kind thread place value))
   run-effect LOAD thread place value fails = run-load thread place value fails

@@ -15,7 +15,7 @@ use Rattle.undo.specs.Events.{payloadOf}
 use Rattle.undo.specs.declared.Event.the-variants.{Empty}
 use Rattle.log.specs.declared.Log.{Log}
 use Rattle.log.proofs.Idle.{idle-holds}
-use Rattle.ring.specs.declared.Releasing.the-variants.{Lock}
+use Rattle.tail.specs.declared.Releasing.the-variants.{Lock}
 use Rattle.machine.specs.Holds.{lockOf, freshMachine, startOf}
 use Rattle.machine.specs.Runs.{Step, after}
 use Rattle.locks.specs.declared.Holder.the-variants.{Thread}
@@ -122,7 +122,7 @@ module _ (cells : List ℕ) (logs : List Log) (isLength : length cells ≡ cellC
     joined = λ place region joined. absurd (false≢true (joined .isAccepted));
   }
 
--- every list of steps
+-- from a machine that has all that the concerns ask, every list of steps leads to one that has
 pub run-holds : {start : Beginning} (machine : Machine) → RunInvariant start machine [] → (steps : List Step)
     → RunInvariant start (after machine steps) (historyOf machine steps)
 run-holds {start} machine begins steps =
@@ -151,7 +151,7 @@ on-start-cells P begins words =
 pub start-length : (words : List ℕ) → length (startCells words) ≡ cellCount
 start-length = on-start-cells (λ cells machine. length cells ≡ cellCount) (λ cells isLength. isLength)
 
--- every list of steps from a start call
+-- every list of steps from a start call leads to a machine that has all that the concerns ask
 pub after-run : (words : List ℕ) (steps : List Step)
     → RunInvariant (beginningWith (startCells words) freshLogs) (machineAfter words steps) (historyAfter words steps)
 after-run words steps =

@@ -10,14 +10,15 @@ use borrow.Author.Tests.{ltb-true, not-false}
 use Rattle.sizes.specs.Sizes.{threadCount, lockCount}
 use Rattle.answer.proofs.RefusalLaws.{AllFail}
 use Rattle.cache.specs.Cache.{cellCount, cachedAt}
-use Rattle.ring.specs.Ring.{grownTail, flushedTail, fencedTail, releasedTail}
+use Rattle.tail.specs.Tail.{flushedTail, fencedTail, releasedTail}
+use Rattle.append.specs.Append.{grownTail}
 use Rattle.undo.specs.Events.{syncCount, liveEvent, enterOf, endReleaseOf}
 use Rattle.log.specs.Entries.{flushLogOf, fenceLogOf, evictSlotOf, dropOf, appendOf}
 use Rattle.undo.specs.Regions.{oldestRegion}
 use Rattle.undo.specs.declared.Event.{Event}
 use Rattle.undo.specs.declared.Event.the-variants.{Empty, Store, Acquire, Release}
 use Rattle.log.specs.declared.Log.{Log}
-use Rattle.accesses.specs.Clocks.{clockAt, noClock, startClocks}
+use Rattle.clocks.specs.Clocks.{clockAt, noClock, startClocks}
 use Rattle.machine.specs.Clocks.{logRaces}
 use Rattle.machine.specs.Effects.{loadEffect, logEffect, storeEffect, acquireEffect, logReleaseEffect, releaseEffect, flushEffect}
 use Rattle.machine.specs.Effects.{flushLogEffect, fenceEffect, pruneEffect, countPruned, evictEffect, evictLogEffect, effect}
@@ -61,7 +62,7 @@ pruned-same machine (Store cell old) = record { clocks = refl; lockClocks = refl
 pruned-same machine (Acquire lock count) = record { clocks = refl; lockClocks = refl; accesses = refl }
 pruned-same machine (Release lock count) = record { clocks = refl; lockClocks = refl; accesses = refl }
 
--- nor who holds what
+-- counting a pruned region changes nothing of who holds what
 pruned-held : (machine : Machine) (event : Event) →
     Held (machine .logs) (machine .locks) (machine .clocks) (machine .«lock_clocks») →
     Held (countPruned machine event .logs) (countPruned machine event .locks) (machine .clocks) (machine .«lock_clocks»)
@@ -83,7 +84,7 @@ module _ (machine : Machine) (history : List Fed) (follows : Follows machine his
       (λ place inside wasAccepted. rw (step-stays history (next ∷ []) place inside) (follows .inRange place wasAccepted))
       (λ isAccepted. rw (step-next history next) isThread)
 
-  -- a plain step keeps it, if it leaves clocks and accesses as they are
+  -- a plain step that leaves clocks and accesses as they are keeps what the machine has to do with its history
   follows-plain : (next : Fed) (after : Machine) → next .accepted ≡ true → next .thread < threadCount →
       Plain (next .kind) → Sized after → after .clocks ≡ machine .clocks →
       after .«lock_clocks» ≡ machine .«lock_clocks» → after .accesses ≡ machine .accesses →
@@ -137,7 +138,7 @@ module _ (machine : Machine) (history : List Fed) (follows : Follows machine his
         AllFail (testsOf machine kind thread place value) →
         Follows (effect machine kind thread place value .machine) (andThen history (tookStep kind thread place value))
 
-    -- the kinds but LOAD, LOG, ACQUIRE and RELEASE
+    -- kinds but LOAD, LOG, ACQUIRE and RELEASE keep what the machine has to do with its history
     plain-kept : (kind : Kind) → Plain (kindNumber kind) →
         effect machine kind thread place value .machine .clocks ≡ machine .clocks →
         effect machine kind thread place value .machine .«lock_clocks» ≡ machine .«lock_clocks» →
@@ -329,7 +330,7 @@ module _ (machine : Machine) (history : List Fed) (follows : Follows machine his
               isHolder;
         }
 
-  -- each effect whose tests all failed keeps it
+  -- each effect whose tests all failed keeps what the machine has to do with its history
   pub effect-follows : (kind : Kind) (thread place value : ℕ) → AllFail (testsOf machine kind thread place value) →
       Follows (effect machine kind thread place value .machine) (andThen history (tookStep kind thread place value))
   effect-follows LOAD thread place value fails = load-kept thread place value fails
@@ -345,7 +346,7 @@ module _ (machine : Machine) (history : List Fed) (follows : Follows machine his
   effect-follows EVICT thread place value fails = evict-kept thread place value fails
   effect-follows EVICTLOG thread place value fails = evictLog-kept thread place value fails
 
-  -- and so does a refused step
+  -- a refused step keeps what the machine has to do with its history
   pub refused-follows : (next : Fed) → next .accepted ≡ false → Follows machine (andThen history next)
   refused-follows next isRefused = record {
     sized = follows .sized;
@@ -370,7 +371,7 @@ begin-follows cells logs all = record {
   held = begin-held logs all startClocks (replicate lockCount noClock);
 }
 
--- every list of steps from a start call
+-- after every list of steps from a start call the clocks, accesses and locks are those of the history
 pub start-follows : (words : List ℕ) (steps : List Step) → Follows (machineAfter words steps) (historyAfter words steps)
 start-follows words steps =
     run-keeps

@@ -26,7 +26,7 @@ pub data Formed : Event → Type 0 where
 pub release-formed : {lock : ℕ} {count : SyncCount} → Formed (Release lock count) → lock < lockCount
 release-formed (aRelease inRange) = inRange
 
--- the kind of the steps that make such an entry: 2 LOG, 4 ACQUIRE and 5 LOGREL
+-- the kind of the steps that make an entry which says this: 2 LOG, 4 ACQUIRE and 5 LOGREL
 abbrev pub stepKindOf : Event → ℕ
 stepKindOf Empty = 0
 stepKindOf (Store cell old) = 2

@@ -64,7 +64,7 @@ told thread index kind place value entry =
     (entry .isLeft)
     entry
 
--- the RELEASE stands before the ACQUIRE
+-- the example's RELEASE stands before its ACQUIRE
 example-handed : Handed exampleLogs examplePresent 0 1 1 0
 example-handed = record {
   lock = 0;
@@ -75,7 +75,7 @@ example-handed = record {
   larger = omega arith;
 }
 
--- the first STORE is below both
+-- the example's first STORE is below every STORE of cell 5
 example-below : (thread index value : ℕ) → Remains exampleLogs examplePresent thread index 1 5 value →
     Below exampleLogs examplePresent 0 0 thread index
 example-below thread index value store =

@@ -87,7 +87,7 @@ module _ (logs : List StoredLog) (present cells final : List ℕ) (undoable : Un
               (λ last. inr (take .put cell (getD final cell 0) (omega arith) last))
               (remains-or-last logs undo thread after take (moved (oldest .store) isLeft))
 
-      -- if it is none, a STORE that was left is left, and a cell that was as wanted is as wanted
+      -- if the entry taken is no STORE of the cell, a STORE that was left is left, and a cell that was as wanted is as wanted
       done-other : (cell : ℕ) → cell < 128 → ((value : ℕ) → Last logs undo thread 1 cell value → ⊥) → Done logs final after cell
       done-other cell inRange noStore = ⊎-elim by-left (λ asWanted. inr (take .kept cell noStore ∙ asWanted)) (midway .done cell inRange)
         where
@@ -113,7 +113,7 @@ module _ (logs : List StoredLog) (present cells final : List ℕ) (undoable : Un
           of-other : ¬ (entryPlace (storedLog logs thread) (lastOf (undo .left) thread) ≡ cell) → Done logs final after cell
           of-other other = done-other cell inRange (λ value store. other (store .isPlace))
 
-      -- a lawful take keeps all of it
+      -- a lawful take keeps all that holds of an undo midway
       pub take-midway : Midway logs present final after
       take-midway = record {
         threads = take .threads;

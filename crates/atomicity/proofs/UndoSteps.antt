@@ -214,7 +214,7 @@ module _ (logs : List StoredLog) (undo : Undo) (thread : ℕ) (after : Undo) (ta
       is-last : other ≡ thread → ¬ (index < leftOf (after .left) other) → index ≡ lastOf (undo .left) thread
       is-last same gone = omega (arith, ap (leftOf (undo .left)) same, ap (leftOf (after .left)) same)
 
-  -- so for what it says
+  -- an entry that was left, with what it says, is left, or is the one taken
   pub remains-or-last : {other index kind place value : ℕ} → Remains logs (undo .left) other index kind place value →
       Remains logs (after .left) other index kind place value ⊎ Last logs undo thread kind place value
   remains-or-last {other} {index} {kind} {place} {value} entry =

@@ -52,7 +52,7 @@ newest-pruned : {entries : Entries} {locks : Locks} {thread number : ℕ} {versi
 newest-pruned prunes none-older pruned = no-version
 newest-pruned prunes (leads-to leads) pruned = is-pruned (leads-pruned prunes leads pruned)
 
--- a cell's versions are so
+-- of a cell's versions, each one's region is committed when it is pruned, and below a pruned one the next one is pruned
 pub settled : {entries : Entries} {locks : Locks} {regions : List Region} {home : ℕ → ℕ → ℕ} {start cell : ℕ} {versions : List Version} →
     PrunesHold entries locks → RegionsHold entries regions home → Chain entries start cell versions →
     Settled entries regions home versions
@@ -97,7 +97,7 @@ in-restored : {thread number value : ℕ} {version : Version} {older : List Vers
 in-restored (here isThread isNumber) = here isThread isNumber
 in-restored (there isIn) = there isIn
 
--- other homes, that differ at no version
+-- homes that differ at no version leave the versions and the stores in step
 pub tracks-homes : {home after : ℕ → ℕ → ℕ} {start cell : ℕ} {versions : List Version} {stores : List Write} →
     ((thread number : ℕ) → In thread number versions → after thread number ≡ home thread number) →
     Tracks home start cell versions stores → Tracks after start cell versions stores
@@ -125,16 +125,16 @@ pub tracks-kept : {entries : Entries} {home after : ℕ → ℕ → ℕ} {start 
     Chain entries start cell versions → Tracks home start cell versions stores → Tracks after start cell versions stores
 tracks-kept same chain tracks = tracks-homes (λ thread number isIn. version-homes same chain isIn) tracks
 
--- the stores, and the versions of every cell
+-- the stores are in step with the versions of every cell
 pub record WritesHold (home : ℕ → ℕ → ℕ) (contents : Contents) (versions : ℕ → List Version) (stores : List Write) : Type 0 where
   pub tracks : (cell : ℕ) → Tracks home (contents .start cell) cell (versions cell) stores
 
--- at the start there are none
+-- at the start there are no stores and no versions
 pub writes-start : {home : ℕ → ℕ → ℕ} {contents : Contents} {versions : ℕ → List Version} →
     ((cell : ℕ) → versions cell ≡ []) → WritesHold home contents versions []
 writes-start fresh = record { tracks = λ cell. rw (fresh cell) nothing }
 
--- a step that logs no cell and stores nothing
+-- a step that logs no cell and stores nothing keeps the stores in step with the versions
 pub writes-keep : {entries : Entries} {home after : ℕ → ℕ → ℕ} {contents kept : Contents} {versions : ℕ → List Version}
     {stores : List Write} →
     ((cell : ℕ) → kept .start cell ≡ contents .start cell) →
@@ -144,7 +144,7 @@ pub writes-keep : {entries : Entries} {home after : ℕ → ℕ → ℕ} {conten
 writes-keep starts same holds writes =
     record { tracks = λ cell. rw (starts cell) (tracks-kept same (holds .chain cell) (writes .tracks cell)) }
 
--- a LOG of a cell
+-- a LOG of a cell keeps the stores in step with the versions
 pub writes-log : {old new : Entries} {now thread cell : ℕ} {home after : ℕ → ℕ → ℕ} {contents : Contents}
     {versions logs : ℕ → List Version} {stores : List Write} →
     LogsCell old new now thread cell contents versions logs →
@@ -161,7 +161,7 @@ writes-log {old} {thread} {cell} {after} {contents} {versions} {logs} {stores} s
     kept : (other : ℕ) → Tracks after (contents .start other) other (versions other) stores
     kept other = tracks-kept same (holds .chain other) (writes .tracks other)
 
--- a STORE to a cell, under the region of its newest version
+-- a STORE to a cell, under the region of its newest version, keeps the stores in step with the versions
 pub writes-store : {entries : Entries} {thread number cell value : ℕ} {home : ℕ → ℕ → ℕ} {contents after : Contents}
     {versions restores : ℕ → List Version} {stores : List Write} →
     StoresCell entries thread number cell value contents after versions restores →

@@ -19,7 +19,7 @@ use Rattle.atomicity.specs.HappensBefore.{RegionBefore}
 abbrev pub cutAfter : List ℕ → List Step → List ℕ → Outcome
 cutAfter words steps image = cutOf (machineAfter words steps) image
 
--- recovery of the words that this cut leaves, over a lent buffer for the cells
+-- recovery of the words that the cut after these steps leaves, over a lent buffer for the cells
 abbrev pub recoveredAfter : List ℕ → List Step → List ℕ → List ℕ → Outcome
 recoveredAfter words steps image buffer = recoverOf (cutAfter words steps image .buffer) buffer
 

@@ -27,7 +27,7 @@ pub record Conflict (history : List Fed) (earlier later : ℕ) : Type 0 where
   pub sameCell : stepAt history earlier .place ≡ stepAt history later .place
   pub oneIsLog : (stepAt history earlier .kind ≡ 2) ⊎ (stepAt history later .kind ≡ 2)
 
--- they "race if .. the earlier does not happen before the later"
+-- two accesses in conflict "race if .. the earlier does not happen before the later"
 pub record Race (history : List Fed) (earlier later : ℕ) : Type 0 where
   pub conflict : Conflict history earlier later
   pub unordered : HappensBefore history earlier later → ⊥

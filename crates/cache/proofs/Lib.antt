@@ -1,4 +1,3 @@
 -- Laws of the cache's definitions, and of the loops over a line.
 pub mod Lines
 pub mod CacheLaws
-pub mod Fences

@@ -1,12 +1,12 @@
 // Cells and lines: what each cell holds in the cache and in persistent memory. Knows nothing of logs, locks or regions.
 ghost use mathlib.Core.Path.{_≡_};
-ghost use mathlib.Core.Bool.{true, false};
+ghost use mathlib.Core.Bool.{false};
 ghost use Prim.Native.Nat.{_*_, _%_, _<_};
 ghost use lib.ListN.{length};
 ghost use lib.Dec.{eqb};
 ghost use Rattle.sizes.specs.Sizes.{threadCount};
-ghost use Rattle.answer.specs.Lists.{setFrom, mixFrom};
-ghost use Rattle.cache.specs.Cache.{cellCount, lineCount, lineOf, cacheOf, isDurable, storeOf, flushOf, fenceOf, evictOf, persistedInto};
+ghost use Rattle.answer.specs.Lists.{setFrom};
+ghost use Rattle.cache.specs.Cache.{lineCount, cacheOf, isDurable, storeOf, flushOf, persistedInto};
 use sizes::CELLS;
 use sizes::LINE_CELLS;
 use sizes::LINES;
@@ -22,32 +22,6 @@ pub struct Cache {
     pub durable: [bool; CELLS],
     // Whether each thread has a pending flush (document 01: a mark) of each line: thread 0's 16 lines, then thread 1's, and so on.
     pub pending: [bool; THREADS * LINES],
-}
-
-// Copies the eight cells of a line.
-fn copy_line(from: &[u64; CELLS], to: &mut [u64; CELLS], line: usize)
-    requires { ⌜ (line < lineCount) × (length (now from) ≡ cellCount) × (length (now to) ≡ cellCount) ⌝ }
-    ensures { λ r. ⌜ now (to .exit) ≡ mixFrom (λ cell. eqb (lineOf cell) line) 0 (now (from .entry)) (now (to .entry)) ⌝ }
-{
-    let end = line * LINE_CELLS + LINE_CELLS;
-    let mut cell = line * LINE_CELLS;
-    while cell < end {
-        to[cell] = from[cell];
-        cell += 1;
-    }
-}
-
-// Sets the eight cells of a line.
-fn set_line(flags: &mut [bool; CELLS], line: usize)
-    requires { ⌜ (line < lineCount) × (length (now flags) ≡ cellCount) ⌝ }
-    ensures { λ r. ⌜ now (flags .exit) ≡ setFrom (λ cell. eqb (lineOf cell) line) true 0 (now (flags .entry)) ⌝ }
-{
-    let end = line * LINE_CELLS + LINE_CELLS;
-    let mut cell = line * LINE_CELLS;
-    while cell < end {
-        flags[cell] = true;
-        cell += 1;
-    }
 }
 
 // Drops every thread's pending flush of a line.
@@ -106,37 +80,6 @@ impl Cache {
             if line < LINES {
                 self.pending[thread * LINES + line] = true;
             }
-        }
-        self
-    }
-
-    // Completes the thread's pending flushes: the cells of each such line are persisted and durable.
-    pub fn fence(mut self, thread: usize) -> Cache
-        ensures { λ r. ⌜ r ≡ fenceOf self thread ⌝ }
-    {
-        if thread < THREADS {
-            let cached = self.cached;
-            let mut line = 0;
-            while line < LINES {
-                let place = thread * LINES + line;
-                if self.pending[place] {
-                    copy_line(&cached, &mut self.persisted, line);
-                    set_line(&mut self.durable, line);
-                    self.pending[place] = false;
-                }
-                line += 1;
-            }
-        }
-        self
-    }
-
-    // The line's cached content is persisted. No cell becomes durable by it.
-    pub fn evict(mut self, line: usize) -> Cache
-        ensures { λ r. ⌜ r ≡ evictOf self line ⌝ }
-    {
-        if line < LINES {
-            let cells = self.cached;
-            copy_line(&cells, &mut self.persisted, line);
         }
         self
     }

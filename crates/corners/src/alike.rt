@@ -12,7 +12,10 @@ use crate::model;
 use crate::tally;
 use crate::tally::COUNTS;
 use answer::Answer;
+use kinds::LOG;
+use log::IMAGE_WORDS;
 use machine::Machine;
+use sizes::CELLS;
 use step::step;
 
 // What every cell holds at the start.
@@ -54,7 +57,7 @@ fn push(past: &mut [u64], accepted: usize, answer: Answer, step: Step) -> usize 
 // Counts a step's answer; and a LOG's that is refused by 8 beside a full log.
 fn note(met: &mut [u64; COUNTS], past: &[u64], kind: u64, thread: u64, answer: u64) {
     tally::add_answer(met, kind, answer);
-    if kind == 2 && answer == 8 {
+    if kind == LOG && answer == 8 {
         if model::has_full_log(past, thread) {
             tally::add_crowded(met);
         }
@@ -63,14 +66,14 @@ fn note(met: &mut [u64; COUNTS], past: &[u64], kind: u64, thread: u64, answer: u
 
 // The model judges the step after this history as the machine did.
 fn judged(past: &[u64], step: Step, answer: Answer, met: &mut [u64; COUNTS]) -> bool {
-    let start = [START; 128];
+    let start = [START; CELLS];
     let number = answer::number(answer);
     note(met, past, step.kind, step.thread, number);
     let verdict = model::judge(&start, past, step.kind, step.thread, step.place, step.value);
     verdict.answer == number && verdict.number == answer::value(answer)
 }
 
-// The same, where the history is the first accepted steps of a list.
+// The model judges the step as the machine did, after a history that is the first accepted steps of a list.
 fn judged_alike(
     past: &[u64],
     accepted: usize,
@@ -100,26 +103,26 @@ fn recovered_into(image: &[u64], cells: &mut [u64], others: &mut [u64]) -> u64 {
 
 // The answer of both recoveries of the image.
 fn recovered(image: &[u64]) -> u64 {
-    let mut cells = [UNTOUCHED; 128];
-    let mut others = [UNTOUCHED; 128];
+    let mut cells = [UNTOUCHED; CELLS];
+    let mut others = [UNTOUCHED; CELLS];
     recovered_into(image, &mut cells, &mut others)
 }
 
-// The same with buffers that are a word too short.
+// The answer of both recoveries of the image into buffers that are a word too short.
 fn recovered_short(image: &[u64]) -> u64 {
-    let mut cells = [UNTOUCHED; 127];
-    let mut others = [UNTOUCHED; 127];
+    let mut cells = [UNTOUCHED; CELLS - 1];
+    let mut others = [UNTOUCHED; CELLS - 1];
     recovered_into(image, &mut cells, &mut others)
 }
 
-// The same with buffers that are a word too long.
+// The answer of both recoveries of the image into buffers that are a word too long.
 fn recovered_long(image: &[u64]) -> u64 {
-    let mut cells = [UNTOUCHED; 129];
-    let mut others = [UNTOUCHED; 129];
+    let mut cells = [UNTOUCHED; CELLS + 1];
+    let mut others = [UNTOUCHED; CELLS + 1];
     recovered_into(image, &mut cells, &mut others)
 }
 
-// The same, now and then with a buffer that is a word too short or too long.
+// The answer of both recoveries of the image, now and then into buffers that are a word too short or too long.
 fn recovered_somehow(image: &[u64], chance: u64) -> u64 {
     if chance % 32 == 0 {
         return recovered_short(image);
@@ -130,7 +133,7 @@ fn recovered_somehow(image: &[u64], chance: u64) -> u64 {
     recovered(image)
 }
 
-// The same of an image's first words.
+// The answer of both recoveries of an image's first words, now and then into buffers that are a word too short or too long.
 fn recovered_part(image: &[u64], words: usize, chance: u64) -> u64 {
     if image.len() < words {
         return DIFFERENT;
@@ -141,21 +144,21 @@ fn recovered_part(image: &[u64], words: usize, chance: u64) -> u64 {
 // An image's length, or now and then a word less or more.
 fn image_words(chance: u64) -> usize {
     if chance % 32 == 0 {
-        return 1155;
+        return IMAGE_WORDS - 1;
     }
     if chance % 32 == 1 {
-        return 1157;
+        return IMAGE_WORDS + 1;
     }
-    1156
+    IMAGE_WORDS
 }
 
 // The image and one word more.
-fn widened(image: &[u64; 1156]) -> [u64; 1157]
+fn widened(image: &[u64; IMAGE_WORDS]) -> [u64; IMAGE_WORDS + 1]
     ensures { λ r. ⌜ 1157 ≡ length r ⌝ }
 {
-    let mut wide = [0u64; 1157];
+    let mut wide = [0u64; IMAGE_WORDS + 1];
     let mut word = 0;
-    while word < 1156 {
+    while word < IMAGE_WORDS {
         wide[word] = image[word];
         word += 1;
     }
@@ -163,7 +166,7 @@ fn widened(image: &[u64; 1156]) -> [u64; 1157]
 }
 
 // The answer of both recoveries of the image once it is damaged.
-fn recovered_damaged(image: &[u64; 1156], chance: u64) -> u64 {
+fn recovered_damaged(image: &[u64; IMAGE_WORDS], chance: u64) -> u64 {
     let mut wide = widened(image);
     damage(&mut wide, chance);
     let other = next(chance);
@@ -172,13 +175,13 @@ fn recovered_damaged(image: &[u64; 1156], chance: u64) -> u64 {
 
 // The machine's image is the model's after this history.
 fn is_image(image: &[u64], past: &[u64]) -> bool {
-    let start = [START; 128];
-    let mut other = [0u64; 1156];
+    let start = [START; CELLS];
+    let mut other = [0u64; IMAGE_WORDS];
     model::cut(&start, past, &mut other);
     same(image, &other)
 }
 
-// The same, where the history is the first accepted steps of a list.
+// The machine's image is the model's, after a history that is the first accepted steps of a list.
 fn image_alike(image: &[u64], past: &[u64], accepted: usize) -> bool {
     if past.len() / 4 < accepted {
         return false;
@@ -198,7 +201,7 @@ fn noted(met: &mut [u64; COUNTS], is_damaged: bool, answer: u64) -> bool {
 
 // The machine's image of a cut is the model's, and both recover it alike, as it is and damaged.
 fn cut_alike(
-    image: &[u64; 1156],
+    image: &[u64; IMAGE_WORDS],
     past: &[u64],
     accepted: usize,
     chance: u64,
@@ -213,11 +216,11 @@ fn cut_alike(
     noted(met, true, recovered_damaged(image, chance))
 }
 
-// The same of every fifth cut, damaged by chance; the others are not looked at.
+// The machine's image of every fifth cut is the model's, and both recover it alike, as it is and damaged; other cuts are not tried.
 fn fifth_alike(
     number: usize,
     seed: u64,
-    image: &[u64; 1156],
+    image: &[u64; IMAGE_WORDS],
     past: &[u64],
     accepted: usize,
     met: &mut [u64; COUNTS],
@@ -230,17 +233,17 @@ fn fifth_alike(
 }
 
 // The image of a cut of the machine.
-fn image_of(machine: Machine) -> [u64; 1156]
+fn image_of(machine: Machine) -> [u64; IMAGE_WORDS]
     requires { ⌜ Reached machine ⌝ }
 {
-    let mut image = [0u64; 1156];
+    let mut image = [0u64; IMAGE_WORDS];
     machine.cut(&mut image);
     image
 }
 
 // The machine and the model take the steps alike, cut before every fifth of them and after the last.
 pub(crate) fn run_alike(steps: &[u64], seed: u64, met: &mut [u64; COUNTS]) -> bool {
-    let start = [START; 128];
+    let start = [START; CELLS];
     let started = Machine::start(&start);
     let mut machine = started.machine;
     let mut past = [0u64; 800];

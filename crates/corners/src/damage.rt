@@ -2,6 +2,12 @@
 use crate::listings::next;
 use crate::listings::set;
 use crate::model::history::at;
+use log::ENTRY_WORDS;
+use log::HEADS_AT;
+use log::IMAGE_WORDS;
+use log::LOGS_AT;
+use log::STRETCH_WORDS;
+use sizes::words;
 
 // An entry's kind STORE in an image.
 const STORE: u64 = 1;
@@ -14,12 +20,13 @@ const RELEASE: u64 = 3;
 
 // The place of a thread's head.
 fn head_at(thread: u64) -> usize {
-    128 + (thread % 4) as usize
+    HEADS_AT + (thread % words::THREADS) as usize
 }
 
 // The place of one of the words kind, place, value, rank in the slot of a rank.
 fn word_at(thread: u64, rank: u64, field: u64) -> usize {
-    132 + (thread % 4 * 256 + rank % 64 * 4 + field % 4) as usize
+    let stretch = (thread % words::THREADS) as usize * STRETCH_WORDS;
+    LOGS_AT + stretch + (rank % words::SLOTS) as usize * ENTRY_WORDS + (field % 4) as usize
 }
 
 // Writes an entry with the rank into its slot.
@@ -32,7 +39,7 @@ fn write_entry(image: &mut [u64], thread: u64, rank: u64, kind: u64, place: u64,
 
 // A rank that is so many ranks after a thread's head, as the image has it.
 fn rank_after(image: &[u64], thread: u64, ahead: u64) -> u64 {
-    at(image, head_at(thread)) % 2000000 + ahead % 64
+    at(image, head_at(thread)) % 2000000 + ahead % words::SLOTS
 }
 
 // Flips a bit of a word.
@@ -182,7 +189,7 @@ fn write_ring(image: &mut [u64], chance: u64) {
 // Damages words: bits flipped anywhere or near a head, heads and entries at or past their bounds.
 fn damage_words(image: &mut [u64], thread: u64, which: u64, chance: u64) {
     if which < 2 {
-        flip(image, (chance / 7 % 1156) as usize, chance / 11);
+        flip(image, (chance / 7) as usize % IMAGE_WORDS, chance / 11);
     } else if which < 4 {
         let rank = rank_after(image, thread, chance / 5 % 4);
         flip(image, word_at(thread, rank, chance / 7), chance / 11 % 8);

@@ -306,7 +306,7 @@ fn thread_at(listing: u64, turns: usize) -> usize {
     turns % 4
 }
 
-// How many turns that thread had before.
+// How many turns the thread whose turn it is had before.
 fn stage_at(listing: u64, turns: usize) -> usize {
     if listing % 3 == 0 {
         return turns / 48 * 12 + turns % 12;
@@ -364,7 +364,7 @@ fn is_extra(listing: u64, chance: u64) -> bool {
     chance / 5 % 8 == 0
 }
 
-// Such a step.
+// A step of a listing that is no thread's turn: of any kind, and in some listings with fields out of range.
 fn extra_step(listing: u64, chance: u64) -> Step {
     if listing % 4 == 3 && chance / 9 % 4 != 0 {
         return spoiled_step(chance);
@@ -389,7 +389,7 @@ fn step_at(listing: u64, turns: usize, chance: u64) -> Step {
     turn_step(listing, turns, chance)
 }
 
-// How many turns there were after that step.
+// How many turns there were after a listing's next step: one more, unless the step is no thread's turn.
 fn turns_after(listing: u64, turns: usize, chance: u64) -> usize {
     if is_extra(listing, chance) {
         return turns;

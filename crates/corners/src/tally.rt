@@ -11,7 +11,7 @@ const RECOVERED: usize = 247;
 // refuse too.
 pub(crate) const COUNTS: usize = 258;
 
-// The last count.
+// The place of the last count: of LOGs that a full log would refuse too.
 const CROWDED: usize = 257;
 
 // Counts one more.
@@ -114,12 +114,12 @@ fn is_such(met: &[u64; COUNTS], at: usize, is_allowed: bool, is_met: bool) -> bo
     (0 < count(met, at)) == is_met
 }
 
-// One more where that is so.
+// The number, with one more where the test holds.
 fn one_more(number: u64, is_so: bool) -> u64 {
     if is_so { number % 1000000 + 1 } else { number }
 }
 
-// How many such pairs there are.
+// How many pairs of a kind and an answer document 01 lets occur, or does not, and were met, or were not.
 fn pairs(met: &[u64; COUNTS], is_allowed: bool, is_met: bool) -> u64 {
     let mut found: u64 = 0;
     let mut at: usize = 0;

@@ -8,21 +8,21 @@ use Rattle.machine.specs.declared.Machine.{Machine}
 use Rattle.line.specs.Text.{ascii}
 use Rattle.line.specs.Lines.{linesOf}
 use Rattle.print.specs.Printed.{cutLineText}
-use Rattle.print.proofs.BufferLaws.{Wrote, wrote-first}
-use Rattle.print.proofs.DecimalLaws.{decimal-most}
+use Rattle.buffer.proofs.BufferLaws.{Wrote, wrote-first}
+use Rattle.buffer.proofs.DecimalLaws.{decimal-most}
 use Rattle.listing.specs.Transcript.{mostInput, startMachine, transcriptRoom}
 use Rattle.listing.proofs.InputLaws.{steps-most}
-use Rattle.listing.proofs.Printing.{LineByLine, texts-most, whole-fits, Stands, Put, print-all, Printing, none-left}
-use Rattle.cuts.specs.Cuts.{cutText, cutsFrom, cutsOf}
+use Rattle.listing.proofs.Printing.{LineByLine, texts-most, count-fits, Stands, Put, print-all, Printing, none-left}
+use Rattle.cuts.specs.Cuts.{cutText, cutsFrom, cutsOf, cutsIn}
 
 -- the piece of a step is the cut after it
 pub by-line : LineByLine cutsFrom (λ number stepped. cutText number (stepped .machine))
 unfolding cutsFrom
 by-line = record { on-step = λ machine number kind thread place value lines. refl; on-unreadable = λ machine number lines. refl }
 
--- ---- how long they are
+-- ---- how long the lines of cuts are
 
--- three numbers of at most 20 digits, and 20 bytes besides
+-- a cut's line has three numbers of at most 20 digits, and 20 bytes besides
 cut-line-most : (number choices differ : ℕ) → length (cutLineText number choices differ) ≤ 80
 unfolding cutLineText ascii
 cut-line-most number choices differ =
@@ -40,7 +40,7 @@ last-most machine number = omega arith
 abbrev pub cutsText : List ℕ → List ℕ
 cutsText input = cutText 0 startMachine ++ cutsFrom startMachine 1 (linesOf input)
 
--- any cuts fit
+-- the cuts of an input that is not too long fit the room
 pub cuts-fit : (input : List ℕ) → length input ≤ mostInput → length (cutsText input) ≤ transcriptRoom
 cuts-fit input short =
     let most = texts-most by-line 80 78 (λ number stepped. cut-most number (stepped .machine)) last-most (omega arith) in
@@ -52,10 +52,10 @@ cuts-fit input short =
       steps-most input,
     )
 
--- and so do those of any input
-pub all-fit : (input : List ℕ) → length (cutsOf input) ≤ transcriptRoom
-unfolding cutsOf
-all-fit input = whole-fits input (cutsText input) (cuts-fit input)
+-- the cuts of any input, too long or not, take no more of a lent buffer than the room that is asked for
+pub cuts-count : (input buffer : List ℕ) → cutsIn input buffer .count ≤ transcriptRoom
+unfolding cutsIn cutsOf
+cuts-count input buffer = count-fits input (cutsText input) buffer (cuts-fit input)
 
 -- ---- before the first line, and at the end of the input
 
@@ -64,7 +64,7 @@ pub first-cut : (old : List ℕ) → transcriptRoom ≤ length old → {machine 
     → {place : ℕ} {output : List ℕ} → Put old 0 (cutText 0 machine) place output → Wrote old output place (cutText 0 startMachine)
 first-cut old room {machine} is put = rw (sym is) (wrote-first old (omega (arith, cut-most 0 machine)) (put .0) (put .1))
 
--- no more is printed: what is written is all
+-- at the end of the input no more is printed: what is written is all
 pub printing-end : {text input old output : List ℕ} {machine : Machine} {number from place : ℕ}
     → Printing cutsFrom text input old output machine number from place → length input ≤ from → Stands input text old place output
 unfolding cutsFrom

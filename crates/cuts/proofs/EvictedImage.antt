@@ -34,7 +34,7 @@ use Rattle.machine.proofs.Reaching.{after-then, step-reached}
 use Rattle.recovery.proofs.MixLaws.{mixedImage}
 use Rattle.atomicity.proofs.RunInvariantHolds.{after-run}
 use Rattle.laws.specs.AnyEviction.{evictions}
-use Rattle.cuts.specs.Counting.{isIn}
+use Rattle.choices.specs.Counting.{isIn}
 
 -- ---- evictions
 
@@ -52,7 +52,7 @@ step-evicts machine line sized =
     (λ past. rw (le-ltb line lineCount (omega arith))
     (ap (withCache machine) (sym (CacheLaws.evictOf-out (machine .cache) sized line (omega arith)))))
 
--- where the later lines decide, or else the first one
+-- a choice by the later lines, or else by the first one, is a choice by either
 either : (isLater isFirst : Bool) (new old : ℕ) → cond isLater new (cond isFirst new old) ≡ cond (isFirst || isLater) new old
 either true true new old = refl
 either true false new old = refl
@@ -78,7 +78,7 @@ module _ (cache : Cache) (line : ℕ) (lines : List ℕ) (sized : CacheLaws.Size
   as-long : length seen ≡ length kept
   as-long = sized .cached-long ∙ sym (sized .persisted-long)
 
-  -- evicting one line, then others
+  -- evicting one line and then others is evicting all of them
   evict-then : evicted (evictOf cache line) lines ≡ evicted cache (line ∷ lines)
   unfolding evictOf isIn
   evict-then =
@@ -109,7 +109,7 @@ unfolding tab
 tab-last zero f = refl
 tab-last (suc count) f = ap (λ (rest : List ℕ). f 0 ∷ rest) (tab-last count (λ index. f (suc index)))
 
--- one more line, the next one
+-- evicting one more line, the next one, is one more step 11
 pub evict-next : (machine : Machine) (count : ℕ) →
     after machine (evictions (tab (count + 1) (λ line. line))) ≡
     stepOf (after machine (evictions (tab count (λ line. line)))) 11 0 count 0 .machine
@@ -201,7 +201,7 @@ module _ (machine : Machine) (reached : Reached machine) where
   unfolding imageOf
   kept-is = refl
 
-  -- the cells of the two images are the seen and the kept ones, and what is behind them is the same
+  -- the images with every line evicted and with none have the seen and the kept cells, and the same words behind them
   pub seen-cells : take headsAt seenImage ≡ machine .cache .cached
   seen-cells = ap (take headsAt) seen-is ∙ cells-of (machine .cache .cached) (logWords machine) (sized .cached-long)
 
@@ -224,7 +224,7 @@ module _ (machine : Machine) (reached : Reached machine) where
       (ap (λ (count : ℕ). count + length (logWords machine)) (sized .cached-long ∙ sym (sized .persisted-long)) ∙
       (sym (length-append (machine .cache .persisted) (logWords machine)) ∙ (ap length (sym kept-is) ∙ kept-long))))
 
-  -- the image of every choice is mixed of these two
+  -- the image of every choice is mixed of the images with every line evicted and with none
   pub evicted-image : (lines : List ℕ) →
       imageOf (after machine (evictions lines)) ≡ mixedImage (λ cell. isIn (lineOf cell) lines) seenImage (imageOf machine)
   evicted-image lines =

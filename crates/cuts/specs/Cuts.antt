@@ -12,7 +12,7 @@ use Rattle.line.specs.declared.Line.{Line}
 use Rattle.line.specs.declared.Line.the-variants.{Step, Unreadable}
 use Rattle.print.specs.Printed.{resultText, cutLineText}
 use Rattle.listing.specs.Transcript.{mostInput, startMachine, transcriptRoom, Transcript}
-use Rattle.cuts.specs.Choices.{recoveredBy, tried}
+use Rattle.cuts.specs.Tried.{recoveredBy, tried}
 
 -- "how many recovered cells differ from the start": start cells are 0
 unfoldable pub notZero : List ℕ → ℕ

@@ -1,4 +1,3 @@
 -- The choices of evicted lines at a cut, and what is printed of each cut of a listing.
-pub mod Choices
-pub mod Counting
+pub mod Tried
 pub mod Cuts

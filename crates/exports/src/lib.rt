@@ -1,4 +1,5 @@
-// The engine for programs in C or Rust: a static library (`rt staticlib exports`) whose functions have plain names. A slice is passed as a pointer
+// The engine for programs in C or Rust: a static library (`rt staticlib exports`) whose functions have plain names. A slice is passed as
+// a pointer
 // to its first element and its length. docs/linking has a program in each language.
 ghost use mathlib.Core.Path.{_≡_};
 ghost use Rattle.answer.specs.Answer.{numberOf};
@@ -14,7 +15,8 @@ pub extern "C" fn region_machine_mark(listing: &[u8], output: &mut [u8]) -> usiz
     listing::transcript(listing, output)
 }
 
-// Recovers the 128 cells of an image of 1,156 words into the lent buffer, and answers 0; or the refusal's number, and the buffer is as it was.
+// Recovers the 128 cells of an image of 1,156 words into the lent buffer, and answers 0; or the refusal's number, and the buffer is as it
+// was.
 #[no_mangle]
 pub extern "C" fn region_machine_recover(image: &[u64], cells: &mut [u64]) -> u64
     ensures { λ r. ⌜ r ≡ numberOf (recoverOf (now (image .entry)) (now (cells .entry)) .answer) ⌝ }

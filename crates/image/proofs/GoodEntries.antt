@@ -29,20 +29,20 @@ unfolding isBadHead
 good-head log good = ltb-false (lastLsn + 1) (log .head) (or-second (eqb (log .head) 0) _ good)
 
 module _ (entry : Entry) (good : Good entry) where
-  -- it is of some kind
+  -- a good entry is of some kind
   pub good-known : entry .kind ≡ 0 → ⊥
   unfolding isBadEntry
   good-known none =
       let is-bad : isBad entry ≡ true = rw none in
       true≢false (sym is-bad ∙ good)
 
-  -- a STORE is of a cell
+  -- a good STORE is of a cell
   pub good-store : entry .kind ≡ 1 → entry .place < headsAt
   unfolding isBadEntry
   good-store store =
       ltb-true (entry .place) headsAt (not-false (ltb (entry .place) headsAt) (rw (eq-eqb (entry .kind) 1 store) at good))
 
-  -- an ACQUIRE and a RELEASE are of a lock
+  -- a good ACQUIRE and a good RELEASE are of a lock
   pub good-acquire : entry .kind ≡ 2 → entry .place < lockCount
   unfolding isBadEntry
   good-acquire acquire =

@@ -1,5 +1,4 @@
 -- Laws about an image's logs and tests, and what the proofs of several functions share.
-pub mod Searches
 pub mod Writes
 pub mod LogsRead
 pub mod GoodEntries

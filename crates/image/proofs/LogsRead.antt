@@ -15,7 +15,7 @@ module _ (image : List ℕ) where
   abbrev logAt : ℕ → StoredLog
   logAt thread = logOf (stretchOf image thread) (getD image (headsAt + thread) 0)
 
-  -- each thread has a count
+  -- each thread has a count of present entries
   pub counts-long : length (presentEntries image) ≡ threadCount
   unfolding storedLogs
   counts-long = length-map (tab threadCount logAt) presentIn ∙ length-tab threadCount logAt
@@ -30,7 +30,7 @@ module _ (image : List ℕ) where
         logOf stretch head ≡ logIn image thread
     log-read {stretch} {head} stretchIs headIs = ap₂ logOf stretchIs (headIs ∙ rw log-in) ∙ sym log-in
 
-    -- its count is of its present entries
+    -- a thread's count is that of its log's present entries
     pub count-present : getD (presentEntries image) thread 0 ≡ presentIn (logIn image thread)
     unfolding storedLogs
     count-present =

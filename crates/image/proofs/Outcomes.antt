@@ -84,7 +84,7 @@ module _ (image : List ℕ) where
       let none = none-stops refused accepted refused accepted answerOf (λ answer. refl) refl (imageTests image) tests-refuse zero in
       (none .1, can-read (none .2))
 
-  -- whatever comes of these tests, and of others after them
+  -- whatever comes of an image's tests, and of other tests after them
   module _ {A : Type 0} (refuse : Answer → A) (outcome : A) where
     -- an image that is refused leaves that refusal
     pub image-refuses : (numberOf (answerOf (testedOf image)) ≡ 0 → ⊥) →
@@ -93,7 +93,7 @@ module _ (image : List ℕ) where
     image-refuses =
         one-stops refuse outcome refused accepted answerOf (λ answer. refl) refl (imageTests image) tests-refuse
 
-    -- an image that is accepted leaves it to the others
+    -- an image that is accepted leaves the outcome to the other tests
     pub image-passes : numberOf (answerOf (testedOf image)) ≡ 0 → unless refuse (imageTests image) outcome ≡ outcome
     unfolding testedOf
     image-passes zero =

@@ -32,12 +32,12 @@ isBad entry = isBadEntry (entry .kind) (entry .place) (entry .value)
 abbrev pub Good : Entry → Type 0
 Good entry = isBad entry ≡ false
 
--- an image that test 21 lets pass and test 22 too
+-- an image that tests 21 and 22 let pass
 pub record Headed (image : List ℕ) : Type 0 where
   pub words : length image ≡ imageWords
   pub heads : (thread : ℕ) → thread < threadCount → isBadHead (logIn image thread) ≡ false
 
--- an image that test 23 lets pass too
+-- an image that tests 21, 22 and 23 let pass
 pub record Readable (image : List ℕ) : Type 0 where
   pub headed : Headed image
   pub good : (thread : ℕ) → thread < threadCount → hasBadEntry (logIn image thread) ≡ false

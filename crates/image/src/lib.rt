@@ -5,7 +5,7 @@ ghost use mathlib.Core.List.{[]};
 ghost use Prim.Native.Nat.{_<_};
 ghost use lib.ListN.{length};
 ghost use lib.Dec.{ltb};
-ghost use Rattle.sizes.specs.Sizes.{threadCount};
+ghost use Rattle.sizes.specs.Sizes.{threadCount, lockCount};
 ghost use Rattle.answer.specs.Lists.{someBelow};
 ghost use Rattle.ring.specs.Ring.{lsn};
 ghost use Rattle.log.specs.Stretch.{imageWords};
@@ -95,7 +95,7 @@ fn has_bad_heads(image: &[u64]) -> bool
 
 // A bad lock, or a lock count over 4,000,000.
 fn is_bad_lock(lock: u64, count: u64) -> bool
-    ensures { λ r. ⌜ r ≡ (not (ltb lock 8) || ltb lastSyncCount count) ⌝ }
+    ensures { λ r. ⌜ r ≡ (not (ltb lock lockCount) || ltb lastSyncCount count) ⌝ }
 {
     if lock < words::LOCKS {
         return words::LAST_COUNT < count;

@@ -92,7 +92,7 @@ module _ (thread place value : ℕ) where
   unfolding kindOf inputTests
   slot-row number is = rw (is, not-below slotCount place)
 
-  -- no row
+  -- a number below 1 or above 12 is in no row
   pub no-row : (number : ℕ) → (number < 1) ⊎ (12 < number) → NoSuchKind ≡ inputAnswer (kindOf number) thread place value
   unfolding kindOf
   no-row number outside =
@@ -116,7 +116,7 @@ module _ (thread place value : ℕ) where
       ))
       outside
 
-  -- past EVICT's row, and in no row
+  -- a number past EVICT's row that is not EVICTLOG's is in no row
   pub no-later-row : (number : ℕ) → 11 ≤ number → (number ≡ 11 → ⊥) → (number ≡ 12 → ⊥) →
       NoSuchKind ≡ inputAnswer (kindOf number) thread place value
   no-later-row number atLeast notEvict notSlot = no-row number (inr (above number 12 (above number 11 atLeast notEvict) notSlot))
@@ -162,7 +162,7 @@ module _ (thread place value : ℕ) where
   answer-zero (some kind) isAccepted =
       none-holds (inputTests kind thread place value) (input-refuses kind thread place value) isAccepted .0
 
-  -- the same two by the kind's number
+  -- by the kind's number, an accepted input gives no number and its thread is one of the four
   pub accepted-zero : (number : ℕ) → numberOf (inputAnswer (kindOf number) thread place value) ≡ 0 →
       inputAnswer (kindOf number) thread place value ≡ Accepted 0
   accepted-zero number isAccepted = answer-zero (kindOf number) isAccepted
@@ -182,7 +182,7 @@ module _ (thread place value number is : ℕ) (kind : Kind) (isKind : kindOf is 
   accepted-place bound isBound =
       ltb-true place bound (not-false (ltb place bound) (sym isBound ∙ none-over thread place value kind of-kind .1 .0))
 
-  -- the fields that its kind does not use are 0
+  -- the fields of an accepted input that its kind does not use are 0
   pub unused-thread : fieldsOf kind .thread ≡ unused → thread ≡ 0
   unused-thread isUnused = unused-zero (fieldsOf kind .thread) thread isUnused (accepted-unused thread place value kind of-kind .0)
 
@@ -192,7 +192,7 @@ module _ (thread place value number is : ℕ) (kind : Kind) (isKind : kindOf is 
   pub unused-value : fieldsOf kind .value ≡ unused → value ≡ 0
   unused-value isUnused = unused-zero (fieldsOf kind .value) value isUnused (accepted-unused thread place value kind of-kind .2)
 
--- the number of an accepted kind
+-- the number of an accepted kind is 1 to 12
 pub known : (thread place value number : ℕ) → numberOf (inputAnswer (kindOf number) thread place value) ≡ 0 →
     (1 ≤ number) × (number ≤ 12)
 known thread place value number isAccepted =

@@ -25,7 +25,7 @@ unfolding feed feedAccepted
 feed-evict book line true = refl
 feed-evict book line false = refl
 
--- and so do evictions of any lines
+-- evictions of any lines leave the reference model as it was
 book-evicted : (book : Book) (machine : Machine) (lines : List ℕ) → fedBook book (historyOf machine (evictions lines)) ≡ book
 unfolding fedBook historyOf evictions
 book-evicted book machine [] = refl
@@ -35,7 +35,7 @@ book-evicted book machine (line ∷ lines) =
     (feed-evict book line (isAccepted (stepped .answer)))
     ∙ book-evicted book (stepped .machine) lines
 
--- after any steps
+-- evictions after any steps leave the reference model as it was after the steps
 after-evicted : (book : Book) (machine : Machine) (steps : List Step) (lines : List ℕ)
     → fedBook book (historyOf machine (steps ++ evictions lines)) ≡ fedBook book (historyOf machine steps)
 unfolding fedBook historyOf

@@ -33,7 +33,7 @@ made-later given history thread first second before isMade =
     let grown = made-grows given history thread (suc first) second (omega arith) in
     rw isMade (omega arith)
 
--- and at one that was made since the beginning
+-- a step of a thread that makes an entry stands at one that was made since the beginning
 made-since : (given : ℕ → ℕ) (history : List Fed) (thread place : ℕ) → makes (stepAt history place) thread ≡ true
     → given thread < madeBy given history thread (suc place)
 unfolding madeBy
@@ -41,7 +41,7 @@ made-since given history thread place isMade =
     let least = made-grows given history thread 0 place (omega arith) in
     rw isMade (omega arith)
 
--- no two of them stand at one entry
+-- no two steps of a thread that make entries stand at one entry
 made-once : (given : ℕ → ℕ) (history : List Fed) (thread first second : ℕ) → makes (stepAt history first) thread ≡ true
     → makes (stepAt history second) thread ≡ true → madeBy given history thread (suc first) ≡ madeBy given history thread (suc second)
     → first ≡ second
@@ -70,7 +70,7 @@ pub step-makes : {history : List Fed} {thread place kind : ℕ} → Accepted his
     → MakesEntry kind → makes (stepAt history place) thread ≡ true
 step-makes {thread = thread} is isThread isMaking = rw (is .isAccepted, isThread, is .isKind, eq-eqb thread thread refl) isMaking
 
--- the step that made an entry is of such a kind
+-- the step that made an entry is of a kind that makes an entry
 formed-kind : {event : Event} → Formed event → MakesEntry (stepKindOf event)
 formed-kind (aStore inRange) = refl
 formed-kind (anAcquire inRange) = refl

@@ -12,9 +12,9 @@ use mathlib.Core.Option.{none, some}
 use lib.Dec.{eqb, ltb}
 use borrow.Author.Tests.{ltb-false, ne-eqb}
 use Rattle.sizes.specs.Sizes.{threadCount}
-use Rattle.ring.specs.Ring.{isReleasing}
-use Rattle.ring.specs.declared.Releasing.{Releasing}
-use Rattle.ring.specs.declared.Releasing.the-variants.{Nothing, Lock}
+use Rattle.tail.specs.Tail.{isReleasing}
+use Rattle.tail.specs.declared.Releasing.{Releasing}
+use Rattle.tail.specs.declared.Releasing.the-variants.{Nothing, Lock}
 use Rattle.log.specs.Entries.{liveCount}
 use Rattle.log.specs.declared.Log.{Log}
 use Rattle.undo.specs.Events.{syncCount, liveEvent}
@@ -59,7 +59,7 @@ oldest-none thread [] from fails = refl
 oldest-none thread (region ∷ regions) from fails =
     rw (fails 0 (omega arith)) (oldest-none thread regions (suc from) (λ place under. fails (suc place) (omega arith)))
 
--- where both hold, the region is not committed
+-- where the test that a region is owned and not committed holds, the region is not committed
 not-committed : (owned committed : Bool) → (owned && not committed) ≡ true → committed ≡ false
 not-committed true true both = absurd (true≢false (sym both))
 not-committed true false both = refl
@@ -111,7 +111,7 @@ record EndsFreed (log : Log) : Type 0 where
   isEnd : isRelease (liveEvent log (oldestRegion log - 1)) ≡ true
   notClosing : isReleasing (log .tail .releasing) ≡ false
 
--- the test of that
+-- the test that the oldest region ends in a RELEASE on which the thread is not closing
 abbrev endsFreed : Log → Bool
 endsFreed log =
     cond (eqb (oldestRegion log) 0) false
@@ -122,7 +122,7 @@ ends-freed log freed =
     let some-entry = freed .notEmpty in
     rw (ne-eqb (oldestRegion log) 0 (λ isNone. omega arith), freed .isEnd, freed .notClosing)
 
--- if it does where no entry stands after it, it is finished
+-- the oldest region is finished if an entry stands after it, or else it ends in a RELEASE on which the thread is not closing
 finished-if : (log : Log) → (liveCount log ≤ oldestRegion log → EndsFreed log) → isFinished log ≡ true
 unfolding isFinished
 finished-if log ends = by-more (ltb (oldestRegion log) (liveCount log)) refl

@@ -42,7 +42,7 @@ record IsOf (fed : Fed) (kind lock : ℕ) : Type 0 where
   isLock : fed .place ≡ lock
 
 module _ (history : List Fed) (fed : Fed) where
-  -- the new step, and each one before it
+  -- an accepted step of a lock in the longer history is the new one or stood there before, and the other way
   of-new : {kind lock : ℕ} → IsOf fed kind lock → OfLock (andThen history fed) (length history) kind lock
   of-new is = record {
     isStep = record { isAccepted = rw (step-new history fed) (is .isAccepted); isKind = rw (step-new history fed) (is .isKind) };
@@ -131,7 +131,7 @@ module _ (history : List Fed) (fed : Fed) where
       (λ new. sym (holds .isThread) ∙ rw (new .0, step-new history fed))
       (of-cases (holds .isAcquire))
 
-  -- after a RELEASE no thread does
+  -- after a RELEASE of the lock no thread holds it
   holds-none : {thread lock : ℕ} → IsOf fed 6 lock → Holds (andThen history fed) thread lock → ⊥
   holds-none is holds =
       ⊎-elim
@@ -151,7 +151,7 @@ holder-still {history = history} fed noAcquire noRelease same is = record {
   isHolder = λ holds. same ∙ is .isHolder (holds-was history fed noAcquire holds);
 }
 
--- every lock's holder is
+-- every lock's holder is who holds the lock by the history
 record HoldersHold (machine : Machine) (history : List Fed) : Type 0 where
   sized : Sized machine
   holders : (lock : ℕ) → HolderIs (lockOf machine lock .holder) history lock
@@ -194,7 +194,7 @@ module _ (machine : Machine) (history : List Fed) (hold : HoldersHold machine hi
     Kept kind = AllFail (testsOf machine kind thread place value)
         → HoldersHold (effect machine kind thread place value .machine) (andThen history (tookStep kind thread place value))
 
-    -- a kind that is neither ACQUIRE nor RELEASE
+    -- a step of a kind that is neither ACQUIRE nor RELEASE leaves each lock's holder who holds it by the history
     aside : (kind : Kind) → (kindNumber kind ≡ 4 → ⊥) → (kindNumber kind ≡ 6 → ⊥)
         → ((lock : ℕ) → lockOf (effect machine kind thread place value .machine) lock .holder ≡ lockOf machine lock .holder) → Kept kind
     aside kind noAcquire noRelease same fails = record {

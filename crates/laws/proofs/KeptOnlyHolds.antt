@@ -53,13 +53,13 @@ slotPlace thread slot index = stretchAt thread + (slot * entryWords + index)
 record KeptCells (alters : ℕ → Bool) (old new : Cache) : Type 0 where
   cells : (cell : ℕ) → cell < cellCount → alters cell ≡ false → persistedAt new cell ≡ persistedAt old cell
 
--- so are the head and the slots of a thread's log
+-- the head and the slots of a thread's log are as they were, but where the test holds of their word of the image
 record KeptLog (alters : ℕ → Bool) (thread : ℕ) (old new : Log) : Type 0 where
   head : alters (headsAt + thread) ≡ false → new .head .0 ≡ old .head .0
   slots : (slot index : ℕ) → index < entryWords → alters (slotPlace thread slot index) ≡ false
       → getD (slotWords (keptSlot new slot)) index 0 ≡ getD (slotWords (keptSlot old slot)) index 0
 
--- so is all that a machine's image holds
+-- all that a machine's image holds is as it was, but where the test holds of the word
 record Kept (alters : ℕ → Bool) (old new : Machine) : Type 0 where
   cache : KeptCells alters (old .cache) (new .cache)
   logs : (thread : ℕ) → KeptLog alters thread (logOf old thread) (logOf new thread)
@@ -167,7 +167,7 @@ other-slot thread slot other index inEntry fails same =
     let own : eqb word (slotPlace thread other index) ≡ true = eq-eqb word (slotPlace thread other index) (rw same) in
     true≢false (sym (found-someBelow entryWords (λ at. eqb word (slotPlace thread other at)) index inEntry own) ∙ fails)
 
--- EVICTLOG: all but the words of its slot
+-- EVICTLOG leaves all of a log's words in the image but those of its slot
 evicted-log : (thread slot : ℕ) (log : Log) → KeptLog (isSlotWord thread slot) thread log (evictSlotOf log slot)
 unfolding evictSlotOf
 evicted-log thread slot log =
@@ -175,7 +175,7 @@ evicted-log thread slot log =
     (λ other index inEntry fails.
     persist-other (log .cached) (log .persisted) slot other (other-slot thread other slot index inEntry fails))
 
--- PRUNE: all but the thread's head
+-- PRUNE leaves all of a log's words in the image but the thread's head
 dropped-log : (thread count : ℕ) (log : Log) → KeptLog (isHeadWord thread) thread log (dropOf log count)
 unfolding dropOf
 dropped-log thread count log =
@@ -183,7 +183,7 @@ dropped-log thread count log =
     (λ fails. absurd (true≢false (sym (eq-eqb (headsAt + thread) (headsAt + thread) refl) ∙ fails)))
     (λ slot index inEntry fails. refl)
 
--- FENCE: all but the slots of the entries that were flushed and not durable
+-- FENCE leaves all of a log's words in the image but the slots of the entries that were flushed and not durable
 fenced-log : (thread : ℕ) (log : Log) → KeptLog (isFlushedWord log thread) thread log (fenceLogOf log)
 unfolding fenceLogOf
 fenced-log thread log =
@@ -215,7 +215,7 @@ module _ (cache : Cache) (sized : CacheLaws.Sized cache) where
   abbrev choice : ℕ → Bool → ℕ
   choice cell isNew = cond isNew (cachedAt cache cell) (persistedAt cache cell)
 
-  -- EVICT: all but the cells of its line
+  -- EVICT leaves all persisted cells but those of its line
   evicted-cells : (line : ℕ) → KeptCells (isLineWord line) cache (evictOf cache line)
   evicted-cells line = record {
     cells = λ cell inCells fails.
@@ -223,7 +223,7 @@ module _ (cache : Cache) (sized : CacheLaws.Sized cache) where
         CacheLaws.evictOf-persisted cache sized line cell ∙ ap (choice cell) elsewhere;
   }
 
-  -- FENCE: all but the cells of the lines whose flush by this thread is pending
+  -- FENCE leaves all persisted cells but those of the lines whose flush by this thread is pending
   fenced-cells : (thread : ℕ) → KeptCells (isPendingWord cache thread) cache (fenceOf cache thread)
   fenced-cells thread = record {
     cells = λ cell inCells fails.
@@ -233,7 +233,7 @@ module _ (cache : Cache) (sized : CacheLaws.Sized cache) where
 
 -- ---- what a change of the machine leaves
 module _ {alters : ℕ → Bool} {old new : Machine} (cells : KeptCells alters (old .cache) (new .cache)) where
-  -- no log changes
+  -- where no log changes, the image keeps what its cells keep
   same-logs : new .logs ≡ old .logs → Kept alters old new
   same-logs same = record {
     cache = cells;
@@ -243,7 +243,7 @@ module _ {alters : ℕ → Bool} {old new : Machine} (cells : KeptCells alters (
         (ap (λ (logs : List Log). getD logs thread noLog .persisted) same);
   }
 
-  -- one log changes
+  -- where one log changes, the image keeps what its cells and that log keep
   one-log : (thread : ℕ) → thread < length (old .logs) → (log : Log) → new .logs ≡ set (old .logs) thread log
       → KeptLog alters thread (logOf old thread) log → Kept alters old new
   one-log thread inLogs log isSet kept = record {
@@ -318,7 +318,7 @@ step-kept machine sized cacheSized step =
     byKind : ℕ → Bool
     byKind = alteredBy machine (kindOf (step .kind)) (step .thread) (step .place)
 
--- every machine that steps lead to has it
+-- every machine that steps lead to has what it takes to read its image
 after-imaged : (words : List ℕ) (steps : List Step) → Imaged (machineAfter words steps)
 after-imaged words steps = record {
   reached = record { words = words; steps = steps; leads = refl };

@@ -1,12 +1,11 @@
 -- The log's sum holds: each step changes the number of live entries by those that it appends and those that it frees.
 use Prim.Native.Nat.{ℕ, zero, suc, _+_, _-_, _<_, _≤_}
 use mathlib.Core.Path.{_≡_, refl}
-use mathlib.Core.Bool.{Bool, true, false, cond, _&&_, _||_}
+use mathlib.Core.Bool.{false, cond, _&&_, _||_}
 use mathlib.Core.List.{List, [], _∷_, map}
 use native.Mathlib.Omega.{arith}
 use lib.Dec.{eqb}
 use lib.ListN.{length, getD, set}
-use borrow.Author.Tests.{eqb-false}
 use Rattle.sizes.specs.Sizes.{threadCount}
 use Rattle.answer.specs.Answer.{isAccepted, valueOf}
 use Rattle.answer.specs.declared.Answer.{Answer}
@@ -15,11 +14,13 @@ use Rattle.answer.proofs.ListLaws.{cond-same}
 use Rattle.answer.proofs.RefusalLaws.{AllFail}
 use Rattle.cache.specs.Cache.{cachedAt}
 use Rattle.log.specs.Entries.{liveCount, flushLogOf, fenceLogOf, evictSlotOf, dropOf, appendOf}
-use Rattle.undo.specs.Events.{liveEvent, enterOf, endReleaseOf}
+use Rattle.undo.specs.Events.{enterOf, endReleaseOf}
 use Rattle.undo.specs.declared.Event.the-variants.{Store, Acquire, Release}
-use Rattle.undo.specs.Regions.{isAcquire, isRelease, goesOn, oldestRegion}
-use Rattle.ring.specs.Ring.{grownTail, flushedTail, fencedTail, releasedTail}
+use Rattle.undo.specs.Regions.{oldestRegion}
+use Rattle.tail.specs.Tail.{flushedTail, fencedTail, releasedTail}
+use Rattle.append.specs.Append.{grownTail}
 use Rattle.log.specs.declared.Log.{Log}
+use Rattle.region.proofs.OldestLaws.{region-live}
 use Rattle.machine.specs.Effects.{loadEffect, logEffect, storeEffect, acquireEffect, logReleaseEffect, releaseEffect, flushEffect}
 use Rattle.machine.specs.Effects.{flushLogEffect, fenceEffect, pruneEffect, evictEffect, evictLogEffect, effect}
 use Rattle.kinds.specs.Kinds.{Kind, LOAD, LOG, STORE, ACQUIRE, LOGREL, RELEASE, FLUSH, FLUSHLOG, FENCE, PRUNE, EVICT, EVICTLOG}
@@ -45,36 +46,13 @@ sum-set number (first ∷ list) (suc place) value default inRange =
     let rest = sum-set number list place value default (omega arith) in
     omega arith
 
--- numbers that are all 0
+-- numbers that are all 0 have the sum 0
 sum-none : {A : Type 0} (number : A → ℕ) (list : List A) (default : A) →
     ((place : ℕ) → number (getD list place default) ≡ 0) → sum (map number list) ≡ 0
 unfolding sum
 sum-none number [] default none = refl
 sum-none number (first ∷ list) default none =
     omega (arith, none 0, sum-none number list default (λ place. none (suc place)))
-
--- of so many entries at most as many go on a region
-goes-most : (log : Log) (index count : ℕ) → goesOn log index count ≤ count
-unfolding goesOn
-goes-most log index zero = omega arith
-goes-most log index (suc count) =
-    by-tests (isAcquire (liveEvent log index)) (isRelease (liveEvent log index)) (goes-most log (suc index) count)
-  where
-    by-tests : (acquires releases : Bool) {later : ℕ} → later ≤ count → cond acquires 0 (cond releases 1 (suc later)) ≤ suc count
-    by-tests true releases most = omega arith
-    by-tests false true most = omega arith
-    by-tests false false most = omega arith
-
--- PRUNE frees live entries only, whatever the log holds
-oldest-most : (log : Log) → oldestRegion log ≤ liveCount log
-unfolding oldestRegion
-oldest-most log = by-tests (eqb (liveCount log) 0) refl (isRelease (liveEvent log 0)) (goes-most log 1 (liveCount log - 1))
-  where
-    by-tests : (isNone : Bool) → eqb (liveCount log) 0 ≡ isNone → (releases : Bool) {later : ℕ} →
-        later ≤ liveCount log - 1 → cond isNone 0 (cond releases 1 (suc later)) ≤ liveCount log
-    by-tests true told releases most = omega arith
-    by-tests false told true most = omega (arith, eqb-false (liveCount log) 0 told)
-    by-tests false told false most = omega (arith, eqb-false (liveCount log) 0 told)
 
 -- no head is past the next LSN, so that a difference of the two counts the live entries
 record Headed (machine : Machine) : Type 0 where
@@ -85,7 +63,7 @@ record Headed (machine : Machine) : Type 0 where
 abbrev freed : ℕ → Answer → ℕ
 freed kind answer = cond (eqb kind 10) (valueOf answer) 0
 
--- how many it appends
+-- how many entries a step of this kind with this answer appends
 abbrev appended : ℕ → Answer → ℕ
 appended kind answer = cond (isAccepted answer && (eqb kind 2 || eqb kind 4 || eqb kind 5)) 1 0
 
@@ -95,7 +73,7 @@ record Balanced (machine : Machine) (kind : ℕ) (stepped : Stepped) : Type 0 wh
   balance : freed kind (stepped .answer) + liveIn (stepped .machine) ≡ appended kind (stepped .answer) + liveIn machine
 
 module _ (machine : Machine) (headed : Headed machine) (kind : ℕ) (stepped : Stepped) (sized : Sized (stepped .machine)) where
-  -- no log changes
+  -- a step that changes no log keeps the balance, if it frees as many entries as it appends
   balanced-same : stepped .machine .logs ≡ machine .logs →
       freed kind (stepped .answer) ≡ appended kind (stepped .answer) → Balanced machine kind stepped
   balanced-same sameLogs sameCount = record {
@@ -103,7 +81,7 @@ module _ (machine : Machine) (headed : Headed machine) (kind : ℕ) (stepped : S
     balance = rw (sameLogs, sameCount);
   }
 
-  -- one log changes
+  -- a step that changes one log keeps the balance, if it does so in that log
   balanced-log : (thread : ℕ) (log : Log) → thread < threadCount →
       stepped .machine .logs ≡ set (machine .logs) thread log → log .head .0 ≤ log .tail .next .0 →
       freed kind (stepped .answer) + liveCount log ≡ appended kind (stepped .answer) + liveCount (logOf machine thread) →
@@ -160,7 +138,7 @@ effect-balanced machine headed kind thread place value fails =
         balanced-log machine headed 9 _ sized thread (fenceLogOf (logOf machine thread)) inRange refl order refl
     by-kind PRUNE sized inRange order =
         let log = logOf machine thread in
-        let most = oldest-most log in
+        let most = region-live log in
         balanced-log machine headed 10 _ sized thread (dropOf log (oldestRegion log)) inRange
         (prune-logs machine thread place value) (omega arith) (omega arith)
     by-kind EVICT sized inRange order = balanced-same machine headed 11 _ sized refl refl
@@ -186,7 +164,7 @@ step-balanced machine headed step =
     rw (kind-number (step .kind) kind isKind)
     (effect-balanced machine headed kind (step .thread) (step .place) (step .value) fails))
 
--- and so does every list of steps
+-- every list of steps keeps the balance
 run-balanced : (machine : Machine) → Headed machine → (steps : List Step) →
     freedBy machine steps + liveIn (after machine steps) ≡ appendedBy machine steps + liveIn machine
 unfolding after freedBy appendedBy
@@ -208,7 +186,7 @@ begin-live cells logs all =
     let none = each-log logs all (λ log. liveCount log ≡ 0) (λ log is. omega (arith, is .nextIs)) refl in
     sum-none liveCount logs noLog none
 
--- so from every beginning, and from the start call, whether it accepts its words or not
+-- the log's sum holds from every beginning, and from the start call, whether that accepts its words or not
 begin-sum : (cells : List ℕ) (logs : List Log) → AllIdle logs → (steps : List Step) →
     freedBy (machineWith cells logs) steps + liveIn (after (machineWith cells logs) steps) ≡ appendedBy (machineWith cells logs) steps
 begin-sum cells logs all steps =

@@ -37,7 +37,7 @@ use Rattle.atomicity.proofs.AppendsKeep.{nowhere-current}
 module _ {entries : Entries} {regions : List Region} {home : ℕ → ℕ → ℕ} {thread number last : ℕ}
     (holds : RegionsHold entries regions home) (made : Made entries thread number)
     (unended : Unended entries thread last) (same : home thread number ≡ home thread last) where
-  -- no region ends at an entry between them
+  -- no region ends from an entry on up to a later one in whose region it stands
   no-boundary : (between : ℕ) → number ≤ between → between < last → Boundary entries thread between → ⊥
   no-boundary between from to boundary =
       let since = made .since in

@@ -31,7 +31,7 @@ count-same one other zero agree = refl
 count-same one other (suc count) agree =
     rw (agree count (omega arith), count-same one other count (λ number under. agree number (omega arith)))
 
--- one number more passes
+-- where one number more passes the test, the count is one more
 pub count-more : (one other : ℕ → Bool) (count extra : ℕ) → extra < count → one extra ≡ false → other extra ≡ true →
     ((number : ℕ) → number < count → (number ≡ extra → ⊥) → one number ≡ other number) →
     countBelow other count ≡ suc (countBelow one count)
@@ -52,11 +52,11 @@ abbrev pub prunedTest : (ℕ → ℕ) → (ℕ → ℕ) → List Fed → ℕ →
 prunedTest given heads history lock place =
     ifReleases (stepAt history place) lock (ltb (lastOf given history place) (heads (stepAt history place .thread)))
 
--- each lock's number is how many such steps there are
+-- each lock's number is how many of its accepted LOGREL steps have an entry below their thread's head
 pub record Counted (given heads : ℕ → ℕ) (history : List Fed) (pruned : ℕ → ℕ) : Type 0 where
   pub number : (lock : ℕ) → pruned lock ≡ countBelow (prunedTest given heads history lock) (length history)
 
--- the same heads, and the same numbers
+-- where heads and numbers stay the same, the numbers count the pruned LOGREL steps still
 pub counted-same : {given heads after : ℕ → ℕ} {history : List Fed} {pruned now : ℕ → ℕ} →
     ((thread : ℕ) → after thread ≡ heads thread) → ((lock : ℕ) → now lock ≡ pruned lock) →
     Counted given heads history pruned → Counted given after history now
@@ -71,7 +71,7 @@ counted-same {given} {heads} {after} {history} same sameNumber counted = record 
       (λ place under. rw (same (stepAt history place .thread))));
 }
 
--- a step more whose entry, if it is a LOGREL, is not pruned
+-- one more step leaves the numbers as they count, if it is no LOGREL or its entry is not pruned
 pub counted-longer : {given heads : ℕ → ℕ} {history : List Fed} {pruned : ℕ → ℕ} (fed : Fed) →
     ((lock : ℕ) → LogsRelease fed lock → heads (fed .thread) ≤ madeBy given (andThen history fed) (fed .thread) (suc (length history))) →
     Counted given heads history pruned → Counted given heads (andThen history fed) pruned

@@ -14,12 +14,12 @@ use Rattle.cache.specs.Cache.{cellCount}
 use Rattle.undo.specs.Events.{liveEvent, endReleaseOf}
 use Rattle.log.specs.Entries.{flushLogOf, fenceLogOf, evictSlotOf, dropOf}
 use Rattle.undo.specs.Regions.{isRelease, oldestRegion}
-use Rattle.ring.specs.Ring.{flushedTail, fencedTail, releasedTail}
+use Rattle.tail.specs.Tail.{flushedTail, fencedTail, releasedTail}
 use Rattle.undo.specs.declared.Event.{Event}
 use Rattle.undo.specs.declared.Event.the-variants.{Empty, Store, Acquire, Release}
 use Rattle.log.specs.declared.Log.{Log}
 use Rattle.undo.proofs.RegionLaws.{live-event}
-use Rattle.accesses.specs.Clocks.{loadedOf, loggedCellOf}
+use Rattle.accesses.specs.Accesses.{loadedOf, loggedCellOf}
 use Rattle.machine.specs.Effects.{loadEffect, logEffect, storeEffect, acquireEffect, logReleaseEffect, releaseEffect, flushEffect}
 use Rattle.machine.specs.Effects.{flushLogEffect, fenceEffect, pruneEffect, evictEffect, evictLogEffect, countPruned, effect}
 use Rattle.locks.specs.Locks.{noLock}
@@ -98,7 +98,7 @@ module _ {start : Beginning} {machine : Machine} {history : List Fed} (holds : P
   abbrev was : Ghost
   was = holds .ghost
 
-  -- a step that moves no head and changes no counter
+  -- a step that moves no head and changes no counter keeps what the counters count
   headless : (after : Machine) (fed : Fed) (next : Ghost) → MachineInvariant start after (andThen history fed) next →
       Follows after (andThen history fed) →
       NewSteps history fed (entriesOf start machine was) (entriesOf start after next) →
@@ -115,7 +115,7 @@ module _ {start : Beginning} {machine : Machine} {history : List Fed} (holds : P
     counted = counted-same heads pruned (counted-longer fed live (holds .counted));
   }
 
-  -- and makes no entry
+  -- a step that moves no head, changes no counter and makes no entry keeps what the counters count
   quiet : (after : Machine) (fed : Fed) (next : Ghost) → MachineInvariant start after (andThen history fed) next →
       Follows after (andThen history fed) →
       Keeps (entriesOf start machine was) (entriesOf start after next) (length history) →

@@ -25,14 +25,14 @@ pub record LogsRelease (fed : Fed) (lock : ℕ) : Type 0 where
   pub isKind : fed .kind ≡ 5
   pub isLock : fed .place ≡ lock
 
--- the test, if the step is one
+-- the test, where the step is an accepted LOGREL of the lock, and else false
 abbrev pub ifReleases : Fed → ℕ → Bool → Bool
 ifReleases fed lock test = fed .accepted && eqb (fed .kind) 5 && eqb (fed .place) lock && test
 
 pub releases-then : {fed : Fed} {lock : ℕ} → LogsRelease fed lock → (test : Bool) → ifReleases fed lock test ≡ test
 releases-then releases test = rw (releases .isAccepted, eq-eqb _ _ (releases .isKind), eq-eqb _ _ (releases .isLock))
 
--- two tests that agree if it is one
+-- two tests that agree where the step is an accepted LOGREL of the lock agree once that is asked first
 pub releases-agree : (fed : Fed) (lock : ℕ) (one other : Bool) → (LogsRelease fed lock → one ≡ other) →
     ifReleases fed lock one ≡ ifReleases fed lock other
 releases-agree fed lock one other agree = by-tests (fed .accepted) refl (eqb (fed .kind) 5) refl (eqb (fed .place) lock) refl
@@ -67,7 +67,7 @@ pub record ReleaseSteps (history : List Fed) (entries : Entries) : Type 0 where
   pub made : {thread number lock : ℕ} {count : SyncCount} → Is entries thread number (Release lock count) →
       MadeAt (entries .before) history thread number lock (entries .time thread number)
 
--- what the step itself stands at, and which entries it made
+-- what a new step stands at, and which entries it made
 pub record NewSteps (history : List Fed) (fed : Fed) (old new : Entries) : Type 0 where
   pub grows : Grows old new (length history)
   pub standsNew : {lock : ℕ} → LogsRelease fed lock → StandsAt (andThen history fed) new (length history) lock
@@ -134,7 +134,7 @@ other-entry appends noLogrel noRelease = record {
   madeNew = λ is. ⊎-elim inl (λ at. absurd (true≢false (ap isRelease (at .2) ∙ noRelease))) (is-cases appends is);
 }
 
--- a LOGREL, which makes its RELEASE entry
+-- a LOGREL stands at the RELEASE entry that it makes
 pub new-release : {history : List Fed} {fed : Fed} {old new : Entries} {thread lock : ℕ} {count : SyncCount} →
     Appends old new (length history) thread (Release lock count) → LogsRelease fed lock → fed .thread ≡ thread →
     lastOf (new .before) (andThen history fed) (length history) ≡ old .next thread → NewSteps history fed old new

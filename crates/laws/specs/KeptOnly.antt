@@ -73,6 +73,6 @@ pub record LeavesOthers (machine : Machine) (step : Step) : Type 0 where
   pub others : (word : ℕ) → mayAlter machine step word ≡ false
       → getD (imageOf (stepWith machine step .machine)) word 0 ≡ getD (imageOf machine) word 0
 
--- the claim: so does every step, on every machine that a list of steps leads to
+-- the claim: every step, on every machine that a list of steps leads to, leaves each word that it may not alter as it was
 abbrev pub KeptOnly : Type 0
 KeptOnly = (words : List ℕ) (steps : List Step) (step : Step) → LeavesOthers (machineAfter words steps) step

@@ -27,7 +27,7 @@ endsCommitted cells history lock place =
     (fedBook (emptyBook cells) history)
     (joins (bookBefore cells history place) (stepAt history place .kind) (stepAt history place .thread))
 
--- how many of the first so many steps are such
+-- how many of the first so many steps are accepted LOGRELs of the lock whose region is committed by now
 unfoldable pub countCommitted : List ℕ → List Fed → ℕ → ℕ → ℕ
 countCommitted cells history lock zero = 0
 countCommitted cells history lock (suc count) =
@@ -37,7 +37,7 @@ countCommitted cells history lock (suc count) =
 abbrev pub prunedReleases : List ℕ → List Fed → ℕ → ℕ
 prunedReleases cells history lock = countCommitted cells history lock (length history)
 
--- the law on refusal 16: the lock's counter is that number
+-- the law on refusal 16: a lock's counter is how many regions that end in a RELEASE of it are pruned
 abbrev pub PrunedLaw : Type 0
 PrunedLaw =
     (words : List ℕ) (steps : List Step) (lock : ℕ) →

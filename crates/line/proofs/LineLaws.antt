@@ -28,14 +28,14 @@ unfolding numberIn
 no-digits [] empty = refl
 no-digits (byte ∷ text) empty = absurd (omega arith)
 
--- a longer text that begins with "0" is none
+-- a text of more than one byte that begins with "0" is no number
 pub leading-zero : (text : List ℕ) → 1 < length text → getD text 0 0 ≡ 48 → numberIn text ≡ Nothing
 unfolding numberIn
 leading-zero [] longer zero-first = refl
 leading-zero (byte ∷ []) longer zero-first = absurd (omega arith)
 leading-zero (first ∷ second ∷ text) longer zero-first = rw (eq-eqb first 48 zero-first)
 
--- any other is read digit by digit
+-- a text that is not empty, and that does not begin with "0" unless it is "0", is read digit by digit
 pub number-starts : (text : List ℕ) → 0 < length text → (1 < length text → getD text 0 0 ≡ 48 → ⊥) → numberIn text ≡ digitsAfter 0 text
 unfolding numberIn
 number-starts [] some first-not = absurd (omega arith)
@@ -43,7 +43,7 @@ number-starts (byte ∷ []) some first-not = refl
 number-starts (first ∷ second ∷ text) some first-not = rw (ne-eqb first 48 (first-not (omega arith)))
 
 module _ (number : ℕ) (text : List ℕ) (i : ℕ) (within : i < length text) where
-  -- one more digit
+  -- where one more digit is read, the number goes on with it
   pub digits-on : 48 ≤ getD text i 0 → getD text i 0 < 58 → number * 10 + (getD text i 0 - 48) < 2 ^ 64
       → digitsAfter number (drop i text) ≡ digitsAfter (number * 10 + (getD text i 0 - 48)) (drop (i + 1) text)
   unfolding digitsAfter
@@ -55,17 +55,17 @@ module _ (number : ℕ) (text : List ℕ) (i : ℕ) (within : i < length text) w
         lt-ltb (number * 10 + (getD text i 0 - 48)) (2 ^ 64) small,
       )
 
-  -- a byte below "0"
+  -- a text with a byte below "0" is no number
   pub digits-low : getD text i 0 < 48 → digitsAfter number (drop i text) ≡ Nothing
   unfolding digitsAfter
   digits-low low = rw (drop-first text i within, lt-leb 48 (getD text i 0) low)
 
-  -- a byte above "9"
+  -- a text with a byte above "9" is no number
   pub digits-high : 48 ≤ getD text i 0 → 58 ≤ getD text i 0 → digitsAfter number (drop i text) ≡ Nothing
   unfolding digitsAfter
   digits-high low high = rw (drop-first text i within, le-leb 48 (getD text i 0) low, le-ltb (getD text i 0) 58 high)
 
-  -- a digit that takes the number past the largest
+  -- a text with a digit that takes the number past the largest is no number
   pub digits-past : 48 ≤ getD text i 0 → getD text i 0 < 58 → 2 ^ 64 ≤ number * 10 + (getD text i 0 - 48) →
       digitsAfter number (drop i text) ≡ Nothing
   unfolding digitsAfter
@@ -77,7 +77,7 @@ module _ (number : ℕ) (text : List ℕ) (i : ℕ) (within : i < length text) w
         le-ltb (number * 10 + (getD text i 0 - 48)) (2 ^ 64) past,
       )
 
--- no digit is left
+-- where no digit is left, the number is the one read so far
 pub digits-end : (number : ℕ) (text : List ℕ) (i : ℕ) → length text ≤ i → digitsAfter number (drop i text) ≡ Number number
 unfolding digitsAfter
 digits-end number text i past = rw (drop-of-length-le text past)
@@ -88,7 +88,7 @@ module _ (key : List ℕ) (says : List ℕ → Field) (text : List ℕ) where
   unfolding afterKey
   no-key differs = rw differs
 
-  -- one that does says what the rest says
+  -- a text that begins with the key says what the rest says
   pub key-read : sameText (take (length key) text) key ≡ true →
       afterKey key says text ≡ says (take (length text - length key) (drop (length key) text))
   unfolding afterKey

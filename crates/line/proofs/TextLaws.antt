@@ -41,7 +41,7 @@ unfolding sameText
 same-refl [] = refl
 same-refl (byte ∷ text) = rw (eq-eqb byte byte refl) (same-refl text)
 
--- texts of two lengths
+-- texts of different lengths are not the same
 pub same-lengths : (one other : List ℕ) → (length one ≡ length other → ⊥) → sameText one other ≡ false
 unfolding sameText
 same-lengths [] [] differ = absurd (differ refl)
@@ -50,17 +50,17 @@ same-lengths (byte ∷ one) [] differ = refl
 same-lengths (byte ∷ one) (byte' ∷ other) differ = neither (eqb byte byte') (same-lengths one other (λ same. differ (ap suc same)))
 
 module _ (one other : List ℕ) (i : ℕ) (in-one : i < length one) (in-other : i < length other) where
-  -- the same byte at a place of both texts
+  -- texts with the same byte at a place are the same from there on just where they are the same after it
   pub same-on : getD one i 0 ≡ getD other i 0 → sameText (drop i one) (drop i other) ≡ sameText (drop (i + 1) one) (drop (i + 1) other)
   unfolding sameText
   same-on here = rw (drop-first one i in-one, drop-first other i in-other, eq-eqb (getD one i 0) (getD other i 0) here)
 
-  -- two bytes at a place
+  -- texts with different bytes at a place are not the same from there on
   pub same-not : (getD one i 0 ≡ getD other i 0 → ⊥) → sameText (drop i one) (drop i other) ≡ false
   unfolding sameText
   same-not here = rw (drop-first one i in-one, drop-first other i in-other, ne-eqb (getD one i 0) (getD other i 0) here)
 
--- nothing is left of either
+-- where nothing is left of two texts, they are the same from there on
 pub same-end : (one other : List ℕ) (i : ℕ) → length one ≤ i → length other ≤ i → sameText (drop i one) (drop i other) ≡ true
 unfolding sameText
 same-end one other i past-one past-other = rw (drop-of-length-le one past-one, drop-of-length-le other past-other)
@@ -70,7 +70,7 @@ pub find-whole : (byte : ℕ) (text : List ℕ) → 0 + indexOf byte (slice 0 (l
 unfolding slice
 find-whole byte text = rw (take-length text, zero-add)
 
--- a part up to the end
+-- a part from a place up to the end is the rest of the text
 pub part-rest : (n : ℕ) (text : List ℕ) → take (length text - n) (drop n text) ≡ drop n text
 part-rest n text = take-all (length text - n) (drop n text) (omega (arith, length-drop n text))
 
@@ -78,6 +78,6 @@ part-rest n text = take-all (length text - n) (drop n text) (omega (arith, lengt
 pub too-short : (text key : List ℕ) → length text < length key → sameText (take (length key) text) key ≡ false
 too-short text key short = same-lengths (take (length key) text) key (λ same. omega (arith, length-take (length key) text))
 
--- one that begins with a key has its bytes
+-- a text that begins with a key is at least as long as the key
 pub long-enough : (text key : List ℕ) → sameText (take (length key) text) key ≡ true → length key ≤ length text
 long-enough text key begins = omega (arith, ap length (same-eq (take (length key) text) key begins), length-take (length key) text)

@@ -18,11 +18,11 @@ space = 32
 abbrev pub newline : ℕ
 newline = 10
 
--- what stands before the first such byte: all, where there is none
+-- what stands before the byte's first place in the text: all, where there is none
 unfoldable pub before : ℕ → List ℕ → List ℕ
 before byte text = take (indexOf byte text) text
 
--- what stands after the first such byte: nothing, where there is none
+-- what stands after the byte's first place in the text: nothing, where there is none
 unfoldable pub after : ℕ → List ℕ → List ℕ
 after byte text = drop (indexOf byte text + 1) text
 

@@ -24,7 +24,7 @@ pub enum Field {
     Nothing,
 }
 
-// The place of the first such byte, or the length where there is none.
+// The first place of the byte in the text, or the length where there is none.
 fn find(text: &[u8], byte: u8) -> usize
     ensures { λ r. ⌜ r ≡ indexOf byte (now (text .entry)) ⌝ }
     ensures { λ r. ⌜ r ≤ length (now (text .entry)) ⌝ }

@@ -39,7 +39,7 @@ lines-ended line (byte ∷ input) ended = by-byte (eqb byte newline) ended (line
     by-byte true ended later = rw (append-nil line)
     by-byte false ended later = later (omega arith) ∙ rw (append-assoc line (byte ∷ []) (take index input), suc-add index 1)
 
--- what has no newline
+-- what has no newline is one line that can't be read, or none where it is empty
 lines-unended : (line input : List ℕ) → length input ≤ indexOf newline input → linesFrom line input ≡ unended (line ++ input)
 unfolding linesFrom indexOf indexAfter
 lines-unended line [] past = rw (append-nil line)

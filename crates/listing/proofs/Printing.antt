@@ -5,7 +5,7 @@ use mathlib.Core.Path.{_≡_, refl, sym, _∙_, ap, ap₂}
 use mathlib.Core.Bool.{cond}
 use mathlib.Core.Logic.{by-cases}
 use mathlib.Core.List.{List, [], _∷_, _++_, append-nil, append-assoc}
-use native.Mathlib.Decide.{decLt}
+use native.Mathlib.Decide.{decLe, decLt}
 use native.Mathlib.Nat.{mul-suc}
 use native.Mathlib.Numerals.{add-one}
 use native.Mathlib.Omega.{arith}
@@ -32,10 +32,10 @@ use Rattle.line.specs.declared.Line.the-variants.{Step, Unreadable}
 use Rattle.line.proofs.Line as declared
 use Rattle.line.proofs.LineLaws.{first-unended}
 use Rattle.line.proofs.TextLaws.{part-rest}
-use Rattle.print.specs.Buffers.{written, placeAfter}
+use Rattle.buffer.specs.Buffers.{written, placeAfter}
 use Rattle.print.specs.Printed.{resultText}
-use Rattle.print.proofs.BufferLaws.{Wrote, wrote-first, wrote-long, wrote-more}
-use Rattle.print.proofs.DecimalLaws.{decimal-most}
+use Rattle.buffer.proofs.BufferLaws.{Wrote, wrote-first, wrote-long, wrote-more}
+use Rattle.buffer.proofs.DecimalLaws.{decimal-most}
 use Rattle.listing.specs.Transcript.{mostInput, startMachine, transcriptRoom, Transcript}
 use Rattle.listing.proofs.InputLaws.{lines-first, leading}
 
@@ -54,7 +54,7 @@ unfolding resultText ascii
 result-most number answer =
     simp length-append (omega (arith, decimal-most number, decimal-most (numberOf answer), decimal-most (valueOf answer)))
 
--- so long they are, where a piece and the text after the last line have bounds
+-- how long the texts are, where a piece and the text after the last line have bounds
 module _ {texts : Machine → ℕ → List Line → List ℕ} {piece : ℕ → Stepped → List ℕ} (by-line : LineByLine texts piece) (most last : ℕ)
     (piece-most : (number : ℕ) (stepped : Stepped) → length (piece number stepped) ≤ most)
     (last-most : (machine : Machine) (number : ℕ) → length (texts machine number []) ≤ last) (some : 78 ≤ last) where
@@ -76,26 +76,34 @@ module _ {texts : Machine → ℕ → List Line → List ℕ} {piece : ℕ → S
 
 -- ---- all that is printed
 
--- of a text for all lines: too long an input prints only its answer, as line 1
+-- all that is printed: the text for all lines, or for too long an input only its answer, as line 1
 abbrev pub wholeOf : List ℕ → List ℕ → List ℕ
 wholeOf input text = cond (ltb mostInput (length input)) (resultText 1 UnreadableAnswer) text
 
--- it fits, where the text of an input that is not too long does
-pub whole-fits : (input text : List ℕ) → (length input ≤ mostInput → length text ≤ transcriptRoom)
+-- all that is printed fits, where the text of an input that is not too long does
+whole-fits : (input text : List ℕ) → (length input ≤ mostInput → length text ≤ transcriptRoom)
     → length (wholeOf input text) ≤ transcriptRoom
 whole-fits input text fits =
     by-cases (decLt mostInput (length input))
     (λ long. rw (lt-ltb mostInput (length input) long) (omega (arith, result-most 1 UnreadableAnswer)))
     (λ not-long. rw (le-ltb mostInput (length input) (omega arith)) (fits (omega arith)))
 
--- it stands in a lent buffer, and this is how many bytes it takes; a buffer without room for any is left as it was
+-- all that is printed, in a lent buffer, and how many bytes it takes; a buffer without room for any is left as it was
 abbrev pub wholeIn : List ℕ → List ℕ → List ℕ → Transcript
 wholeIn input text buffer =
     cond (leb transcriptRoom (length buffer))
     (record { count = length (wholeOf input text); buffer = wholeOf input text ++ drop (length (wholeOf input text)) buffer })
     (record { count = 0; buffer = buffer })
 
--- a count and a buffer are that
+-- what printing all into a lent buffer takes is no more than the room, where the text of an input that is not too long fits that
+pub count-fits : (input text buffer : List ℕ) → (length input ≤ mostInput → length text ≤ transcriptRoom)
+    → wholeIn input text buffer .count ≤ transcriptRoom
+count-fits input text buffer fits =
+    by-cases (decLe transcriptRoom (length buffer))
+    (λ room. rw (le-leb transcriptRoom (length buffer) room) (whole-fits input text fits))
+    (λ noRoom. let short : length buffer < transcriptRoom = omega arith in rw (lt-leb transcriptRoom (length buffer) short) (omega arith))
+
+-- the count and the buffer are what printing all into the lent buffer leaves
 abbrev pub Stands : List ℕ → List ℕ → List ℕ → ℕ → List ℕ → Type 0
 Stands input text old place output = _≡_ {A = Transcript} (record { count = place; buffer = output }) (wholeIn input text old)
 
@@ -140,7 +148,7 @@ pub started-reached : {machine : Machine} → machine ≡ startMachine → Reach
 unfolding startMachine
 started-reached is = rw is (start-reached (replicate cellCount 0))
 
--- before the first line
+-- before the first line, what is printed first is the part that is written
 pub printing-start : {texts : Machine → ℕ → List Line → List ℕ} (first : List ℕ) {input old output : List ℕ} {machine : Machine} {place : ℕ}
     → length input ≤ mostInput → length (first ++ texts startMachine 1 (linesOf input)) ≤ transcriptRoom → transcriptRoom ≤ length old
     → Wrote old output place first → machine ≡ startMachine
@@ -161,7 +169,7 @@ printing-start first short fits room wrote is = record {
 abbrev pub lent : ℕ → List ℕ → List ℕ
 lent from input = take (length input - from) (drop from input)
 
--- the tag of a line that says no step is the other one
+-- a line whose tag is not that of a step can't be read
 unreadable : (line : Line) → OneOf (1 ∷ []) (tagOf declared.the-type line) → line ≡ Unreadable
 unreadable (Step kind thread place value) key = absurd (miss (1 ∷ []) 0 tt key)
 unreadable Unreadable key = refl
@@ -185,7 +193,7 @@ module _ {texts : Machine → ℕ → List Line → List ℕ} {text input old ou
         length-append piece rest,
       )
 
-  -- the last piece
+  -- once the last piece is put, all is printed
   pub printing-last : (piece : List ℕ) → texts machine number (linesOf (drop from input)) ≡ piece
       → {place' : ℕ} {output' : List ℕ} → Put output place piece place' output' → Stands input text old place' output'
   printing-last piece is put =
@@ -193,7 +201,7 @@ module _ {texts : Machine → ℕ → List Line → List ℕ} {text input old ou
       let whole = sym (so-far .left) ∙ ap (λ (rest : List ℕ). so-far .done ++ rest) is in
       print-all input text old (so-far .room) (so-far .short) (rw whole all)
 
-  -- the end of the input
+  -- at the end of the input no line is left
   pub none-left : length input ≤ from → texts machine number (linesOf (drop from input)) ≡ texts machine number []
   unfolding linesOf linesFrom
   none-left none = rw (drop-of-length-le input none)
@@ -203,14 +211,14 @@ module _ {texts : Machine → ℕ → List Line → List ℕ} {text input old ou
     first : texts machine number (linesOf (drop from input)) ≡ texts machine number (line ∷ linesOf (after newline (drop from input)))
     first = rw (lines-first (drop from input) (omega (arith, length-drop from input)), read, part-rest from input)
 
-    -- a line that can't be read
+    -- a line that can't be read prints its answer as the last piece
     pub printing-unreadable : {piece : ℕ → Stepped → List ℕ} → LineByLine texts piece → OneOf (1 ∷ []) (tagOf declared.the-type line)
         → {place' : ℕ} {output' : List ℕ} → Put output place (resultText number UnreadableAnswer) place' output'
         → Stands input text old place' output'
     printing-unreadable by-line key put =
         printing-last (resultText number UnreadableAnswer) (first ∙ rw (unreadable line key, by-line .on-unreadable)) put
 
-    -- a step
+    -- a line that says a step prints the step's piece
     module _ {kind thread cell value : ℕ} (says : line ≡ Step kind thread cell value) where
       ended : indexOf newline (drop from input) < length (drop from input)
       ended =

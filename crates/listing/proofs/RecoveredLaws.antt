@@ -22,9 +22,11 @@ use Rattle.listing.specs.Transcript.{recoveredCells}
 use Rattle.log.specs.Stretch.{headsAt}
 
 -- a cut into a buffer of 1,156 words writes the image
-cut-whole : (machine : Machine) → cutOf machine (replicate 1156 0) .buffer ≡ imageOf machine
+pub cut-image : (machine : Machine) {image : List ℕ} {answer : Answer}
+    → _≡_ {A = Outcome} (record { answer = answer; buffer = image }) (cutOf machine (replicate 1156 0))
+    → image ≡ imageOf machine
 unfolding cutOf unless
-cut-whole machine = refl
+cut-image machine cut = ap (λ (outcome : Outcome). outcome .buffer) cut
 
 -- the cut and recovery, one after the other
 pub recovered-are : (machine : Machine) {image cells : List ℕ} {answer answer' : Answer}
@@ -33,9 +35,8 @@ pub recovered-are : (machine : Machine) {image cells : List ℕ} {answer answer'
     → cells ≡ recoveredCells machine
 unfolding recoveredCells
 recovered-are machine cut recovered =
-    let is : _ ≡ imageOf machine = ap (λ (outcome : Outcome). outcome .buffer) cut ∙ cut-whole machine in
     ap (λ (outcome : Outcome). outcome .buffer) recovered
-    ∙ ap (λ (image : List ℕ). recoverOf image (replicate 128 0) .buffer) is
+    ∙ ap (λ (image : List ℕ). recoverOf image (replicate 128 0) .buffer) (cut-image machine cut)
 
 -- an entry that is taken keeps the number of cells
 taken-long : (logs : List StoredLog) (undo : Undo) (next : Option ℕ) → length (takeFrom logs undo next .cells) ≡ length (undo .cells)
@@ -50,14 +51,14 @@ taken-long logs undo (some thread) =
     kept true cells place value = length-set cells place value
     kept false cells place value = refl
 
--- an undo keeps it
+-- an undo keeps the number of cells
 undo-long : (count : ℕ) (logs : List StoredLog) (undo : Undo) → length (takeMany count logs undo .cells) ≡ length (undo .cells)
 unfolding takeMany takeNext
 undo-long zero logs undo = refl
 undo-long (suc count) logs undo =
     undo-long count logs (takeNext logs undo) ∙ taken-long logs undo (lowestFrom logs (undo .left) 0 threadCount)
 
--- there are no more than 128
+-- there are no more than 128 recovered cells
 pub recovered-most : (machine : Machine) → length (recoveredCells machine) ≤ 128
 unfolding recoveredCells recoverOf recoverTests imageTests undone undoStart
 recovered-most machine =

@@ -9,13 +9,13 @@ use lib.Dec.{eqb}
 use Rattle.machine.specs.declared.Machine.{Machine}
 use Rattle.line.specs.Text.{ascii}
 use Rattle.line.specs.Lines.{linesOf}
-use Rattle.print.specs.Buffers.{written}
+use Rattle.buffer.specs.Buffers.{written}
 use Rattle.print.specs.Printed.{resultText, cellText, cellsText}
-use Rattle.print.proofs.BufferLaws.{placed}
-use Rattle.print.proofs.DecimalLaws.{decimal-most}
-use Rattle.listing.specs.Transcript.{mostInput, startMachine, recoveredCells, printed, transcriptOf, transcriptRoom}
+use Rattle.buffer.proofs.BufferLaws.{placed}
+use Rattle.buffer.proofs.DecimalLaws.{decimal-most}
+use Rattle.listing.specs.Transcript.{mostInput, startMachine, recoveredCells, printed, transcriptOf, transcriptIn, transcriptRoom}
 use Rattle.listing.proofs.InputLaws.{steps-most}
-use Rattle.listing.proofs.Printing.{LineByLine, result-most, texts-most, whole-fits, Stands}
+use Rattle.listing.proofs.Printing.{LineByLine, result-most, texts-most, count-fits, Stands}
 use Rattle.listing.proofs.Printing.{Printing, printing-long, piece-fits, printing-last, none-left}
 use Rattle.listing.proofs.RecoveredLaws.{recovered-most}
 
@@ -55,10 +55,10 @@ printed-fits input short =
     let most = texts-most by-line 78 6784 (λ number stepped. result-most number (stepped .answer)) last-most (omega arith) in
     omega (arith, most startMachine 1 (linesOf input), steps-most input)
 
--- and so does any transcript
-pub transcript-fits : (input : List ℕ) → length (transcriptOf input) ≤ transcriptRoom
-unfolding transcriptOf
-transcript-fits input = whole-fits input (printed startMachine 1 (linesOf input)) (printed-fits input)
+-- a transcript in a lent buffer takes no more than the room that is asked for
+pub transcript-count : (input buffer : List ℕ) → transcriptIn input buffer .count ≤ transcriptRoom
+unfolding transcriptIn transcriptOf
+transcript-count input buffer = count-fits input (printed startMachine 1 (linesOf input)) buffer (printed-fits input)
 
 -- ---- the end of the input
 

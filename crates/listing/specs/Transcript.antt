@@ -45,7 +45,7 @@ transcriptOf input = cond (ltb mostInput (length input)) (resultText 1 Unreadabl
 abbrev pub transcriptRoom : ℕ
 transcriptRoom = 163840
 
--- the transcript in a lent buffer, and how many bytes it takes: a buffer without that room is left as it was, with 0
+-- the transcript in a lent buffer, and how many bytes it takes: a buffer without room for any is left as it was, with 0
 pub record Transcript : Type 0 where
   pub count : ℕ
   pub buffer : List ℕ

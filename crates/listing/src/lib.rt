@@ -2,7 +2,7 @@
 ghost use mathlib.Core.Path.{_≡_};
 ghost use Prim.Native.Nat.{_+_, _≤_};
 ghost use lib.ListN.{length};
-ghost use Rattle.print.specs.Buffers.{written};
+ghost use Rattle.buffer.specs.Buffers.{written};
 ghost use Rattle.print.specs.Printed.{cellsText};
 ghost use Rattle.machine.specs.Runs.{Reached};
 ghost use Rattle.listing.specs.Transcript.{recoveredCells, transcriptIn};
@@ -12,6 +12,12 @@ use log::IMAGE_WORDS;
 use machine::Machine;
 use sizes::CELLS;
 use step::step;
+
+// The bytes that an input has at most: a longer one is unreadable.
+pub const MOST_INPUT: usize = 65536;
+
+// The bytes that a lent buffer must have, so that every transcript fits.
+pub const TRANSCRIPT_ROOM: usize = 163840;
 
 // Writes each of the cells that isn't 0, where there is room for them.
 fn write_cells(output: &mut [u8], place: usize, cells: &[u64]) -> usize
@@ -49,10 +55,10 @@ fn write_recovered(output: &mut [u8], place: usize, machine: Machine) -> usize
 pub fn transcript(input: &[u8], output: &mut [u8]) -> usize
     ensures { λ r. ⌜ record { count = r; buffer = now (output .exit) } ≡ transcriptIn (now (input .entry)) (now (output .entry)) ⌝ }
 {
-    if output.len() < 163840 {
+    if output.len() < TRANSCRIPT_ROOM {
         return 0;
     }
-    if 65536 < input.len() {
+    if MOST_INPUT < input.len() {
         return print::write_result(output, 0, 1, Answer::Unreadable);
     }
     let zeros = [0u64; CELLS];

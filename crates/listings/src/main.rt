@@ -4,6 +4,8 @@
 ghost use Prim.Native.Nat.{_≤_, _<_};
 ghost use Rattle.io.specs.Counts.{Counts};
 use line::Line;
+use listing::MOST_INPUT;
+use listing::TRANSCRIPT_ROOM;
 
 // What became of a listing.
 enum Verdict {
@@ -26,8 +28,8 @@ fn first(buffer: &[u8], count: usize) -> &[u8] {
 // Opens the file of this name and ending; answers its descriptor, or a number below 0.
 fn open(name: &[u8], ending: &[u8]) -> i32 {
     let mut path = [0u8; 80];
-    let end = print::write(&mut path, 0, name);
-    let end = print::write(&mut path, end, ending);
+    let end = buffer::write(&mut path, 0, name);
+    let end = buffer::write(&mut path, end, ending);
     os::open_read(first(&path, end))
 }
 
@@ -168,9 +170,9 @@ fn judge(name: &[u8], counts: &mut Table) -> Verdict {
         return Verdict::Missing;
     }
     // one byte more than a listing and a transcript may have, so that a longer one shows
-    let mut input = [0u8; 65537];
+    let mut input = [0u8; MOST_INPUT + 1];
     let mut stored = [0u8; 163841];
-    let mut output = [0u8; 163840];
+    let mut output = [0u8; TRANSCRIPT_ROOM];
     let given = read(listing, &mut input);
     let wanted = read(transcript, &mut stored);
     count_lines(&input[..given], &stored[..wanted], counts);
@@ -192,69 +194,69 @@ fn agrees(verdict: Verdict) -> bool {
 
 // Writes a listing's name and its verdict into the report.
 fn write_verdict(report: &mut [u8], place: usize, name: &[u8], verdict: Verdict) -> usize {
-    let end = print::write(report, place, name);
+    let end = buffer::write(report, place, name);
     match verdict {
-        Verdict::Agrees => print::write(report, end, b": agrees\n"),
-        Verdict::Differs => print::write(report, end, b": differs\n"),
-        Verdict::Missing => print::write(report, end, b": missing\n"),
+        Verdict::Agrees => buffer::write(report, end, b": agrees\n"),
+        Verdict::Differs => buffer::write(report, end, b": differs\n"),
+        Verdict::Missing => buffer::write(report, end, b": missing\n"),
     }
 }
 
 // Writes the blanks before a number in a column of five bytes.
 fn write_blanks(report: &mut [u8], place: usize, number: u64) -> usize {
     if number < 10 {
-        return print::write(report, place, b"    ");
+        return buffer::write(report, place, b"    ");
     }
     if number < 100 {
-        return print::write(report, place, b"   ");
+        return buffer::write(report, place, b"   ");
     }
     if number < 1000 {
-        return print::write(report, place, b"  ");
+        return buffer::write(report, place, b"  ");
     }
-    print::write(report, place, b" ")
+    buffer::write(report, place, b" ")
 }
 
 // Writes a number of at most four digits into a column.
 fn write_number(report: &mut [u8], place: usize, number: u64) -> usize {
     let end = write_blanks(report, place, number);
-    print::write_number(report, end, number)
+    buffer::write_number(report, end, number)
 }
 
 // Writes the table's first line: the answers.
 fn write_answers(report: &mut [u8], place: usize) -> usize {
-    let mut end = print::write(report, place, b"\nanswer    ");
+    let mut end = buffer::write(report, place, b"\nanswer    ");
     let mut answer: u64 = 0;
     while answer < 19 {
         end = write_number(report, end, answer);
         answer += 1;
     }
     end = write_number(report, end, 20);
-    print::write(report, end, b"\n")
+    buffer::write(report, end, b"\n")
 }
 
 // Writes what a row of the table counts.
 fn write_kind(report: &mut [u8], place: usize, row: usize) -> usize {
     match row {
-        0 => print::write(report, place, b"LOAD      "),
-        1 => print::write(report, place, b"LOG       "),
-        2 => print::write(report, place, b"STORE     "),
-        3 => print::write(report, place, b"ACQUIRE   "),
-        4 => print::write(report, place, b"LOGREL    "),
-        5 => print::write(report, place, b"RELEASE   "),
-        6 => print::write(report, place, b"FLUSH     "),
-        7 => print::write(report, place, b"FLUSHLOG  "),
-        8 => print::write(report, place, b"FENCE     "),
-        9 => print::write(report, place, b"PRUNE     "),
-        10 => print::write(report, place, b"EVICT     "),
-        11 => print::write(report, place, b"EVICTLOG  "),
-        _ => print::write(report, place, b"unreadable"),
+        0 => buffer::write(report, place, b"LOAD      "),
+        1 => buffer::write(report, place, b"LOG       "),
+        2 => buffer::write(report, place, b"STORE     "),
+        3 => buffer::write(report, place, b"ACQUIRE   "),
+        4 => buffer::write(report, place, b"LOGREL    "),
+        5 => buffer::write(report, place, b"RELEASE   "),
+        6 => buffer::write(report, place, b"FLUSH     "),
+        7 => buffer::write(report, place, b"FLUSHLOG  "),
+        8 => buffer::write(report, place, b"FENCE     "),
+        9 => buffer::write(report, place, b"PRUNE     "),
+        10 => buffer::write(report, place, b"EVICT     "),
+        11 => buffer::write(report, place, b"EVICTLOG  "),
+        _ => buffer::write(report, place, b"unreadable"),
     }
 }
 
 // Writes a count, and a dot for none.
 fn write_count(report: &mut [u8], place: usize, count: u64) -> usize {
     if count == 0 {
-        return print::write(report, place, b"    .");
+        return buffer::write(report, place, b"    .");
     }
     write_number(report, place, count)
 }
@@ -269,7 +271,7 @@ fn write_row(report: &mut [u8], place: usize, counts: &Table, row: usize) -> usi
         end = write_count(report, end, counts[row * 20 + column]);
         column += 1;
     }
-    print::write(report, end, b"\n")
+    buffer::write(report, end, b"\n")
 }
 
 // Writes the table of kinds against answers.
@@ -285,11 +287,11 @@ fn write_table(report: &mut [u8], place: usize, counts: &Table) -> usize {
 
 // Writes how many listings agree, and how many don't.
 fn write_sums(report: &mut [u8], place: usize, passed: u64, failed: u64) -> usize {
-    let end = print::write(report, place, b"\n");
-    let end = print::write_number(report, end, passed);
-    let end = print::write(report, end, b" pass, ");
-    let end = print::write_number(report, end, failed);
-    print::write(report, end, b" fail\n")
+    let end = buffer::write(report, place, b"\n");
+    let end = buffer::write_number(report, end, passed);
+    let end = buffer::write(report, end, b" pass, ");
+    let end = buffer::write_number(report, end, failed);
+    buffer::write(report, end, b" fail\n")
 }
 
 // Marks the listings that are named, then prints the verdicts, the table and the sums in one write.

@@ -28,7 +28,7 @@ module _ {A : Type 0} (refuse : Answer → A) (outcome : A) (tests : List Test) 
       refusals
       (λ zero. isRefused (isNumber ∙ rw isAsked zero))))
 
-  -- none held, and the step is taken
+  -- no test held, and the step is taken
   pub asked-accepted : number ≡ 0 → outcome ≡ unless refuse tests outcome
   unfolding firstRefusal
   asked-accepted isAccepted =

@@ -22,7 +22,7 @@ use Rattle.locks.specs.declared.Lock.{Lock}
 pub free-grows : (lock : Lock) → lock .count .0 < largest → freeOf lock ≡ freedOf lock
 free-grows lock below = rw (lt-ltb (lock .count .0) largest below)
 
--- and a PRUNE to the pruned regions of a lock, where their number can
+-- a PRUNE adds 1 to the number of a lock's pruned regions, where that can grow
 pub counted-grows : (locks : List Lock) (event : Event) → getD locks (placeOf event) noLock .pruned .0 < largest
     → countedLocks locks event ≡ prunedLocks locks event
 counted-grows locks Empty below = refl
@@ -38,14 +38,14 @@ below-last durable end =
     (λ less. rw (lt-ltb (durable + 1) end less, lt-ltb durable (end - 1) (omega arith)))
     (λ notLess. rw (le-ltb (durable + 1) end (omega arith), le-ltb durable (end - 1) (omega arith)))
 
--- the tests of ACQUIRE and of LOGREL, before those of their append
+-- the tests of ACQUIRE and of LOGREL, before those of their append, are refusals
 pub acquire-own-refuses : (log : Log) (lock : Lock) → AllRefuse (acquireTestsOn log lock)
 acquire-own-refuses log lock = (refl, (refl, tt))
 
 pub log-release-own-refuses : (log : Log) (lock : Lock) (thread : ℕ) → AllRefuse (logReleaseTestsOn log lock thread)
 log-release-own-refuses log lock thread = (refl, (refl, tt))
 
--- the tests of RELEASE
+-- the tests of RELEASE are refusals
 pub release-refuses : (log : Log) (place : ℕ) → AllRefuse (releaseTests log place)
 unfolding releaseTests
 release-refuses log place = (refl, (refl, tt))

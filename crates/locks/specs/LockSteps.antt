@@ -5,15 +5,15 @@ use mathlib.Core.Bool.{not}
 use mathlib.Core.List.{List, [], _∷_, _++_}
 use Rattle.answer.specs.Refusals.{Test, _⇒_, unless}
 use Rattle.answer.specs.declared.Answer.the-variants.{Accepted, Releasing, EntryNotDurable, LockHeld, LockNotHeld, NotReleasing}
-use Rattle.ring.specs.Ring.{isReleasingLock}
+use Rattle.tail.specs.Tail.{isReleasingLock}
 use Rattle.log.specs.Entries.{appendTests}
 use Rattle.log.specs.declared.Changed.{Changed}
 use Rattle.log.specs.declared.Log.{Log}
 use Rattle.undo.specs.Events.{enterOf, endReleaseOf}
 use Rattle.undo.specs.Regions.{isClosing, isUndurableUpTo}
 use Rattle.undo.specs.declared.Event.the-variants.{Acquire, Release}
-use Rattle.accesses.specs.Clocks.{joinOf, raiseOf}
-use Rattle.accesses.specs.declared.Clock.{Clock}
+use Rattle.clocks.specs.Clocks.{joinOf, raiseOf}
+use Rattle.clocks.specs.declared.Clock.{Clock}
 use Rattle.locks.specs.Locks.{isHeld, isHeldBy, takenBy, freeOf}
 use Rattle.locks.specs.declared.Handed.{Handed}
 use Rattle.locks.specs.declared.Lock.{Lock}

@@ -50,7 +50,7 @@ prunedLocks locks (Release lock count) =
 abbrev pub largest : ℕ
 largest = 18446744073709551615
 
--- one more, where there is one: a count that cannot grow stays. (None gets there by steps: each RELEASE takes one of 4,000,000 LSNs.)
+-- a count plus 1; a count that cannot grow stays. (None gets there by steps: each RELEASE takes one of 4,000,000 LSNs.)
 abbrev pub oneMore : SyncCount → SyncCount
 oneMore count = cond (ltb (count .0) largest) (syncCount (count .0 + 1)) count
 

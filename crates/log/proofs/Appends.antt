@@ -6,11 +6,12 @@ use lib.Dec.{eqb}
 use lib.ListN.{set}
 use Rattle.answer.specs.Answer.{numberOf}
 use Rattle.answer.specs.declared.Answer.the-variants.{Accepted}
-use Rattle.ring.specs.Ring.{slotOf, growOf}
-use Rattle.ring.specs.declared.Grown.{Grown}
-use Rattle.ring.proofs.Room.{Decided, decided}
+use Rattle.ring.specs.Ring.{slotOf}
+use Rattle.append.specs.Append.{growOf}
+use Rattle.append.specs.declared.Grown.{Grown}
+use Rattle.append.proofs.Room.{Decided, decided}
 use Rattle.log.specs.Entries.{entryOf, appendOf, appendedOf}
-use Rattle.ring.specs.declared.Releasing.{Releasing}
+use Rattle.tail.specs.declared.Releasing.{Releasing}
 use Rattle.log.specs.declared.Log.{Log}
 use Rattle.log.specs.declared.Payload.{Payload}
 

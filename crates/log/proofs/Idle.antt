@@ -7,8 +7,9 @@ use native.Mathlib.Omega.{arith}
 use borrow.Author.Tests.{ne-eqb}
 use lib.Dec.{eqb}
 use lib.ListN.{length, getD-replicate}
-use Rattle.ring.specs.Ring.{slotCount, lastLsn, slotOf, freshTail}
-use Rattle.ring.specs.declared.Releasing.the-variants.{Nothing}
+use Rattle.ring.specs.Ring.{slotCount, lastLsn, slotOf}
+use Rattle.tail.specs.Tail.{freshTail}
+use Rattle.tail.specs.declared.Releasing.the-variants.{Nothing}
 use Rattle.log.specs.Entries.{zeros, wordsOf, freshLog}
 use Rattle.log.specs.Stretch.{holds}
 use Rattle.log.specs.declared.Entry.{Entry}
@@ -29,7 +30,7 @@ pub record Idle (log : Log) : Type 0 where
   pub releasesNothing : log .tail .releasing ≡ Nothing
   pub holdsNone : (number : ℕ) → log .head .0 ≤ number → holds (wordsOf (log .persisted)) number ≡ false
 
--- it keeps the invariant of a log, whatever its thread's entries said before
+-- an idle log keeps the invariant of a log, whatever its thread's entries said before
 pub idle-holds : (log : Log) (says : ℕ → Payload) → Idle log → LogHolds log says
 idle-holds log says idle = record {
   cachedSlots = idle .cachedSlots;

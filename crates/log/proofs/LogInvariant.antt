@@ -9,9 +9,11 @@ use borrow.Author.Tests.{eq-eqb, eqb-true, leb-false}
 use lib.ListN.{length, getD, length-set}
 use lib.Seq.{getD-set-same, getD-set-other}
 use Rattle.answer.proofs.RefusalLaws.{AllFail}
-use Rattle.ring.specs.Ring.{slotCount, lastLsn, lsn, slotOf, grownTail, roomTests, flushedTail, fencedTail}
-use Rattle.ring.specs.declared.Releasing.{Releasing}
-use Rattle.ring.specs.declared.Tail.{Tail}
+use Rattle.ring.specs.Ring.{slotCount, lastLsn, lsn, slotOf}
+use Rattle.tail.specs.Tail.{flushedTail, fencedTail}
+use Rattle.append.specs.Append.{grownTail, roomTests}
+use Rattle.tail.specs.declared.Releasing.{Releasing}
+use Rattle.tail.specs.declared.Tail.{Tail}
 use Rattle.log.specs.Entries.{entryOf, zeros, slotWords, wordsOf, entryAt, keptAt, withTail, isLiveSlot, appendTests, appendOf}
 use Rattle.log.specs.Entries.{flushLogOf, fenceLogOf, evictSlotOf, dropOf}
 use Rattle.log.specs.Stretch.{entryWords, lsnWord, holds}
@@ -115,7 +117,7 @@ append-room log fails =
     (leb-false (lastLsn + 1) (log .tail .next .0) (fails .0), leb-false slotCount (log .tail .next .0 - log .head .0) (fails .1 .0))
 
 module _ (log : Log) (says : ℕ → Payload) (inv : LogHolds log says) where
-  -- one entry more, which says this
+  -- a log with one entry more, which says this, keeps the invariant
   pub append-holds : (payload : Payload) (closes : Releasing) (then : ℕ → Payload) → AllFail (appendTests log)
       → then (log .tail .next .0) ≡ payload → ((number : ℕ) → number < log .tail .next .0 → then number ≡ says number)
       → LogHolds (appendOf log payload closes) then
@@ -144,7 +146,7 @@ module _ (log : Log) (says : ℕ → Payload) (inv : LogHolds log says) where
       (omega arith)
       (omega (arith, inv .headNext)))
 
-  -- another record of the thread with the same numbers
+  -- a log with another record of its thread that has the same numbers keeps the invariant
   pub retail-holds : (tail : Tail) → tail .next ≡ log .tail .next → tail .durable ≡ log .tail .durable → tail .flushed ≡ log .tail .flushed
       → LogHolds (withTail log tail) says
   retail-holds tail next durable flushed =
@@ -207,7 +209,7 @@ module _ (log : Log) (says : ℕ → Payload) (inv : LogHolds log says) where
       })
       (λ slot inside. refl))
 
-  -- durable entries are dropped
+  -- a log of which durable entries are dropped keeps the invariant
   pub drop-holds : (count : ℕ) → log .head .0 + count ≤ log .tail .next .0 → log .head .0 + count ≤ log .tail .durable .0 + 1
       → LogHolds (dropOf log count) says
   unfolding dropOf

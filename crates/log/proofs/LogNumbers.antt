@@ -1,11 +1,11 @@
 -- What an append does to a log's head, to the next LSN, and to the last durable and the last flushed one.
 use Prim.Native.Nat.{ℕ, _+_}
 use mathlib.Core.Path.{_≡_, refl}
-use Rattle.ring.specs.Ring.{grownTail}
+use Rattle.append.specs.Append.{grownTail}
 use Rattle.log.specs.Entries.{appendOf}
 use Rattle.log.specs.declared.Log.{Log}
 use Rattle.log.specs.declared.Payload.{Payload}
-use Rattle.ring.specs.declared.Releasing.{Releasing}
+use Rattle.tail.specs.declared.Releasing.{Releasing}
 
 -- the four numbers of a log
 pub record Numbers (log : Log) (head next durable flushed : ℕ) : Type 0 where

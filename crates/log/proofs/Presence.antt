@@ -35,7 +35,7 @@ module _ (found : ℕ → Bool) where
   present-stops-at-missing number zero missing = refl
   present-stops-at-missing number (suc count) missing = rw (missing, and-false (leb number lastLsn))
 
-  -- one that is found counts, and the next one is looked for
+  -- an LSN that is found counts, and the next one is looked for
   pub present-goes-on : (number count : ℕ) → number ≤ lastLsn → found number ≡ true
       → presentFrom found number (suc count) ≡ suc (presentFrom found (suc number) count)
   unfolding presentFrom
@@ -56,7 +56,7 @@ module _ (found : ℕ → Bool) where
       let left : n - count ≡ suc (n - (count + 1)) = omega arith in
       rw (left, present-goes-on number (n - (count + 1)) low here, add-one number) (omega arith)
 
-  -- at most so many are present
+  -- of so many LSNs at most all are present
   pub present-at-most : (number count : ℕ) → presentFrom found number count ≤ count
   unfolding presentFrom
   present-at-most number zero = omega arith

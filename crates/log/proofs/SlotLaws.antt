@@ -78,7 +78,7 @@ words-are slots number payload is =
     λ index inside. slot-word slots (slotOf number) index inside ∙ ap (λ slot. getD (slotWords slot) index 0) is in
     record { kindIs = word 0 (omega arith); placeIs = word 1 (omega arith); valueIs = word 2 (omega arith) }
 
--- such a slot holds the LSN
+-- a slot that has the entry of an LSN holds the LSN
 pub entry-holds : (slots : List Entry) (number : ℕ) (payload : Payload) → getD slots (slotOf number) zeros ≡ entryOf (lsn number) payload
     → holds (wordsOf slots) number ≡ true
 entry-holds slots number payload is =
@@ -106,7 +106,7 @@ pub persist-other : (cached slots : List Entry) (slot other : ℕ) → other ≢
 unfolding persistSlot
 persist-other cached slots slot other differs = getD-set-other slots slot other (getD cached slot zeros) zeros differs
 
--- so have the slots of a run of LSNs
+-- the slots of a run of LSNs that is persisted have what is cached there, and the others have what they had
 pub run-here : (cached slots : List Entry) (number count live : ℕ) → length slots ≡ slotCount → number ≤ live → live < number + count
     → getD (persistFrom cached slots number count) (slotOf live) zeros ≡ getD cached (slotOf live) zeros
 unfolding persistFrom

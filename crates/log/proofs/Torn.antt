@@ -8,13 +8,13 @@ use native.Mathlib.Omega.{arith}
 use lib.ListN.{length, take, drop, take-append-drop}
 use lib.Seq.{length-take-le, take-append-le, drop-append-add, take-take, drop-drop}
 
--- the words of the slot
+-- the words of the slot: the first so many are the new ones, and from there on the old ones
 abbrev pub tornOver : List ℕ → List ℕ → ℕ → List ℕ
 tornOver old new count = take count new ++ drop count old
 
 -- the words from `said` on tell the entry's LSN; those before it are what the entry says
 module _ (old new : List ℕ) (said : ℕ) (sameWidth : length old ≡ length new) (saidIn : said ≤ length new) where
-  -- where no word that tells was reached, those that tell are the old ones
+  -- where no word that tells the LSN was reached, those that tell it are the old ones
   old-tells : (count : ℕ) → count ≤ said → drop said (tornOver old new count) ≡ drop said old
   old-tells count few =
       let front : length (take count new) ≡ count = length-take-le count new (omega arith) in
@@ -25,7 +25,7 @@ module _ (old new : List ℕ) (said : ℕ) (sameWidth : length old ≡ length ne
       ∙ drop-drop (said - count) count old
       ∙ ap (λ k. drop k old) back
 
-  -- where one was reached, all that the entry says is there
+  -- where all words before those that tell the LSN were reached, all that the entry says is there
   new-says : (count : ℕ) → said ≤ count → count ≤ length new → take said (tornOver old new count) ≡ take said new
   new-says count many most =
       take-append-le said (take count new) (drop count old) (omega (arith, length-take-le count new most))
@@ -35,7 +35,7 @@ module _ (old new : List ℕ) (said : ℕ) (sameWidth : length old ≡ length ne
   pub torn-same : (count : ℕ) → old ≡ new → tornOver old new count ≡ new
   torn-same count same = ap (λ words. take count new ++ drop count words) same ∙ take-append-drop count new
 
-  -- so a slot that tells the entry has it whole, if that was so before
+  -- a slot that tells the entry's LSN has the entry whole, if that was so before
   pub torn-whole : (count : ℕ) → count ≤ length new → (drop said old ≡ drop said new → old ≡ new)
       → drop said (tornOver old new count) ≡ drop said new → tornOver old new count ≡ new
   torn-whole count most wholeBefore tells =

@@ -8,10 +8,12 @@ use lib.Dec.{eqb, leb, ltb}
 use Rattle.answer.specs.Lists.{someBelow}
 use Rattle.answer.specs.Refusals.{Test, _⇒_, unless}
 use Rattle.answer.specs.declared.Answer.the-variants.{Accepted, NoLiveEntry}
-use Rattle.ring.specs.Ring.{slotCount, lsn, slotOf, liveOf, freshTail, grownTail, roomTests, flushedTail, fencedTail}
+use Rattle.ring.specs.Ring.{slotCount, lsn, slotOf}
+use Rattle.tail.specs.Tail.{liveOf, freshTail, flushedTail, fencedTail}
+use Rattle.append.specs.Append.{grownTail, roomTests}
 use Rattle.ring.specs.declared.Lsn.{Lsn}
-use Rattle.ring.specs.declared.Releasing.{Releasing}
-use Rattle.ring.specs.declared.Tail.{Tail}
+use Rattle.tail.specs.declared.Releasing.{Releasing}
+use Rattle.tail.specs.declared.Tail.{Tail}
 use Rattle.log.specs.Stretch.{stretchWords}
 use Rattle.log.specs.declared.Changed.{Changed}
 use Rattle.log.specs.declared.Entry.{Entry}

@@ -6,15 +6,15 @@ ghost use lib.ListN.{getD};
 ghost use Rattle.log.specs.Entries.{slotWords, freshLog, appendedOf, flushLogOf, fenceLogOf, evictedOf, dropToOf, writtenOf};
 ghost use Rattle.log.specs.Stretch.{stretchOf, wordAt, presentOf};
 use answer::Answer;
+use append::append_to;
 use ring::Lsn;
-use ring::Releasing;
-use ring::Tail;
-use ring::append_to;
 use ring::has_slot;
 use ring::slot_after;
 use sizes::SLOTS;
 use sizes::THREADS;
 use sizes::words;
+use tail::Releasing;
+use tail::Tail;
 
 // The words of an entry in an image, of which the last one tells its LSN, and those of a log.
 pub const ENTRY_WORDS: usize = 4;

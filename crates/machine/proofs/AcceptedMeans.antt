@@ -10,12 +10,13 @@ use Rattle.answer.proofs.RefusalLaws.{AllFail}
 use Rattle.undo.specs.Events.{liveEvent}
 use Rattle.log.specs.Entries.{appendTests, isLiveSlot, evictSlotTests}
 use Rattle.undo.specs.Regions.{loggedOf, oldestRegion, isFinished, isFound, isUndurableFound}
-use Rattle.ring.specs.Ring.{lsn, isReleasing, isReleasingLock}
+use Rattle.ring.specs.Ring.{lsn}
+use Rattle.tail.specs.Tail.{isReleasing, isReleasingLock}
 use Rattle.undo.specs.declared.Found.{Found}
 use Rattle.undo.specs.declared.Found.the-variants.{Nowhere, At}
 use Rattle.log.specs.declared.Log.{Log}
-use Rattle.ring.specs.declared.Releasing.{Releasing}
-use Rattle.ring.specs.declared.Releasing.the-variants.{Nothing, Lock}
+use Rattle.tail.specs.declared.Releasing.{Releasing}
+use Rattle.tail.specs.declared.Releasing.the-variants.{Nothing, Lock}
 use Rattle.machine.specs.Clocks.{loadRaces, logRaces}
 use Rattle.machine.specs.Holds.{logOf, lockOf}
 use Rattle.locks.specs.Locks.{isHeld, isHeldBy}

@@ -10,13 +10,13 @@ use borrow.Author.Tests.{eq-eqb, ne-eqb}
 use Rattle.sizes.specs.Sizes.{threadCount, lockCount}
 use Rattle.answer.proofs.ListLaws.{getD-blank}
 use Rattle.cache.specs.Cache.{cellCount, cacheOf}
-use Rattle.ring.specs.declared.Releasing.the-variants.{Nothing}
+use Rattle.tail.specs.declared.Releasing.the-variants.{Nothing}
 use Rattle.log.specs.Entries.{freshLog}
 use Rattle.log.specs.declared.Log.{Log}
 use Rattle.log.proofs.Idle.{Idle, fresh-idle}
 use Rattle.machine.specs.Holds.{noLog, lockOf, freshMachine, startOf}
 use Rattle.locks.specs.Locks.{noLock}
-use Rattle.accesses.specs.Clocks.{noClock, startClocks}
+use Rattle.clocks.specs.Clocks.{noClock, startClocks}
 use Rattle.machine.specs.declared.Machine.{Machine}
 
 -- the machine with these cells and logs
@@ -64,7 +64,7 @@ fresh-all = record {
   idle = λ thread inRange. rw (getD-replicate threadCount thread freshLog noLog inRange) fresh-idle;
 }
 
--- the start call, whether 21 refuses its words or not, gives such a machine: what holds of each that has its logs holds of the start call's
+-- what holds of the machine with any 128 cells and fresh logs holds of the start call's, whether 21 refuses its words or not
 pub on-start : (P : Machine → Type 0) → ((cells : List ℕ) → length cells ≡ cellCount → P (machineWith cells freshLogs)) → (words : List ℕ)
     → P (startOf words .machine)
 unfolding startOf freshMachine

@@ -16,28 +16,30 @@ use Rattle.undo.specs.Events.{liveEvent, enterOf, endReleaseOf}
 use Rattle.cache.specs.Cache.{cachedAt}
 use Rattle.log.specs.Entries.{appendTests, flushLogOf, fenceLogOf, evictSlotOf, dropOf, appendOf}
 use Rattle.undo.specs.Regions.{oldestRegion, isFinished}
-use Rattle.ring.specs.Ring.{isReleasing, grownTail, flushedTail, fencedTail, releasedTail}
+use Rattle.tail.specs.Tail.{isReleasing, flushedTail, fencedTail, releasedTail}
+use Rattle.append.specs.Append.{grownTail}
 use Rattle.undo.specs.declared.Event.{Event}
 use Rattle.undo.specs.declared.Event.the-variants.{Empty, Store, Acquire, Release}
 use Rattle.log.specs.declared.Log.{Log}
 use native.Mathlib.Nat.{suc-mul}
-use Rattle.ring.specs.declared.Releasing.the-variants.{Lock}
+use Rattle.tail.specs.declared.Releasing.the-variants.{Lock}
 use Rattle.log.proofs.LogInvariant.{append-room}
-use Rattle.prune.proofs.OldestLaws.{region-live, finished-some}
-use Rattle.accesses.specs.Clocks.{clockAt, joinOf, raisedOf, loadedOf, loggedCellOf, noClock, startClocks}
+use Rattle.region.proofs.OldestLaws.{region-live, finished-some}
+use Rattle.clocks.specs.Clocks.{clockAt, joinOf, raisedOf, noClock, startClocks}
+use Rattle.accesses.specs.Accesses.{loadedOf, loggedCellOf}
 use Rattle.machine.specs.Effects.{loadEffect, logEffect, storeEffect, acquireEffect, logReleaseEffect, releaseEffect, flushEffect}
 use Rattle.machine.specs.Effects.{flushLogEffect, fenceEffect, pruneEffect, evictEffect, evictLogEffect, effect}
 use Rattle.locks.specs.Locks.{prunedLocks, noLock}
 use Rattle.machine.specs.Holds.{noLog, logOf, lockOf, clockOf, lockClockOf, startOf}
 use Rattle.kinds.specs.Kinds.{Kind, LOAD, LOG, STORE, ACQUIRE, LOGREL, RELEASE, FLUSH, FLUSHLOG, FENCE, PRUNE, EVICT, EVICTLOG}
 use Rattle.machine.specs.Runs.{Step, after, Reached}
-use Rattle.accesses.specs.declared.Clock.{Clock}
+use Rattle.clocks.specs.declared.Clock.{Clock}
 use Rattle.locks.specs.declared.Lock.{Lock as LockState}
 use Rattle.machine.specs.declared.Machine.{Machine}
 use Rattle.machine.proofs.AcceptedMeans.{log-asked, acquire-asked, log-release-asked, release-asked, flush-log-asked, fence-asked}
 use Rattle.machine.proofs.AcceptedMeans.{prune-asked, evict-log-asked}
 use Rattle.machine.proofs.Beginnings.{machineWith, AllIdle, each-log, releases-nothing, lock-free, freshLogs, fresh-all, on-start}
-use Rattle.accesses.proofs.ClockLaws.{clockAt-join, clockAt-raised-other, clockAt-raised-own, clockAt-none, start-raised}
+use Rattle.clocks.proofs.ClockLaws.{clockAt-join, clockAt-raised-other, clockAt-raised-own, clockAt-none, start-raised}
 use Rattle.machine.proofs.Sizes.{Sized, effect-sized, begin-sized}
 use Rattle.machine.proofs.StepLaws.{testsOf, after-keeps}
 
@@ -66,7 +68,7 @@ sum-bound number (first ∷ list) bound default each =
     let rest = sum-bound number list bound default (λ place inRange. each (suc place) (omega arith)) in
     rw (suc-mul (length list) bound) (omega arith)
 
--- numbers of which each is at least 1
+-- a list of numbers, each of which is at least 1, is no longer than their sum
 pub sum-least : {A : Type 0} (number : A → ℕ) (list : List A) (default : A)
     → ((place : ℕ) → place < length list → 1 ≤ number (getD list place default)) → length list ≤ sumBy number list
 unfolding sumBy
@@ -109,7 +111,7 @@ count-bound machine counted lock =
     let bound = counted .counts lock in
     omega arith
 
--- and no more regions that end in a RELEASE of a lock are pruned
+-- no more than 4,000,000 regions that end in a RELEASE of a lock are pruned
 pub pruned-bound : (machine : Machine) → Counted machine → (lock : ℕ) → lockOf machine lock .pruned .0 ≤ 4000000
 pruned-bound machine counted lock =
     let most =
@@ -168,7 +170,7 @@ within-raised logs thread log inThreads inRange grows clock within =
     (λ other differs. rw (clockAt-raised-other clock thread other differs) (within other))
 
 module _ (machine next : Machine) (counted : Counted machine) (sized : Sized next) where
-  -- nothing of the logs, locks and clocks changes
+  -- where nothing of the logs, locks and clocks changes, the machine stays within the bounds
   counted-same : next .logs ≡ machine .logs → next .locks ≡ machine .locks → next .clocks ≡ machine .clocks
       → next .«lock_clocks» ≡ machine .«lock_clocks» → Counted next
   counted-same sameLogs sameLocks sameClocks sameLockClocks = record {
@@ -187,7 +189,7 @@ module _ (machine next : Machine) (counted : Counted machine) (sized : Sized nex
     inLogs : thread < length (machine .logs)
     inLogs = rw (counted .sized .logs) inRange
 
-    -- one log changes, and what it gains pays for the locks
+    -- where one log changes, and what it gains pays for the locks, the machine stays within the bounds
     counted-change : next .logs ≡ set (machine .logs) thread log
         → ((owner : ℕ) → Within (set (machine .logs) thread log) (clockOf next owner))
         → ((lock : ℕ) → Within (set (machine .logs) thread log) (lockClockOf next lock)) → Counted next
@@ -209,7 +211,7 @@ module _ (machine next : Machine) (counted : Counted machine) (sized : Sized nex
           lockClocks = rw isSet lockClocks;
         }
 
-    -- one log changes, and no clock
+    -- where one log changes, and no clock, the machine stays within the bounds
     counted-log : next .logs ≡ set (machine .logs) thread log → next .clocks ≡ machine .clocks
         → next .«lock_clocks» ≡ machine .«lock_clocks» → Counted next
     counted-log isSet sameClocks sameLockClocks =
@@ -235,7 +237,7 @@ ends-pays : (log : Log) (lock : ℕ) → log .tail .releasing ≡ Lock lock → 
 unfolding endReleaseOf releasedTail
 ends-pays log lock releases bound live = let closing : closingOf log ≡ 1 = rw releases in omega arith
 
--- the head moves past a finished region
+-- a head that moves past a finished region pays for one pruned region
 prune-pays : (log : Log) → isFinished log ≡ true → nextOf log ≤ 1000001 → headOf log ≤ nextOf log
     → Pays log (dropOf log (oldestRegion log)) 0 1
 unfolding dropOf
@@ -425,6 +427,6 @@ start-counted words = on-start Counted (λ cells isLength. begin-counted cells f
 pub after-counted : (words : List ℕ) (steps : List Step) → Counted (after (startOf words .machine) steps)
 after-counted words steps = after-keeps Counted effect-counted (startOf words .machine) (start-counted words) steps
 
--- as is every machine that a step is taken on
+-- every machine that a step may be taken on is within the bounds
 pub reached-counted : (machine : Machine) → Reached machine → Counted machine
 reached-counted machine reached = rw (reached .leads) (after-counted (reached .words) (reached .steps))

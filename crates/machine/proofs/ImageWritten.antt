@@ -42,7 +42,7 @@ part-back list part at =
     (drop-of-length-le (drop at list) {i = length list - at} (omega (arith, length-drop at list))) ∙
     ap (λ (rest : List ℕ). take at list ++ rest) (append-nil part)
 
--- and what was lent is the rest of the list
+-- a part that is lent from a place up to the end is the rest of the list from there on
 pub part-lent : (list : List ℕ) (at : ℕ) → take (length list - at) (drop at list) ≡ drop at list
 part-lent list at = take-all (length list - at) (drop at list) (omega (arith, length-drop at list))
 
@@ -117,7 +117,7 @@ module _ (machine : Machine) (reached : Reached machine) (cells : length (machin
       sym (getD-take stretchWords (drop (stretchAt thread) (imageOf machine)) index 0 below) ∙
       ap (λ (part : List ℕ). getD part index 0) stretch
 
-  -- the cells
+  -- the cells are written before the first thread's log
   pub written-cells : (image : List ℕ) → length image ≡ imageWords → WrittenTo machine (persistedInto (machine .cache) image) 0
   written-cells image long =
       let is = persistedInto-long (machine .cache) image (omega arith) in
@@ -132,7 +132,7 @@ module _ (machine : Machine) (reached : Reached machine) (cells : length (machin
         back = λ place from below. absurd (omega arith);
       }
 
-  -- one more thread
+  -- one more thread's head and stretch are written
   pub written-more : (image : List ℕ) (thread : ℕ) → thread < threadCount → WrittenTo machine image thread
       → WrittenTo machine (logInto (logOf machine thread) thread image) (thread + 1)
   written-more image thread inThread at =
@@ -157,7 +157,7 @@ module _ (machine : Machine) (reached : Reached machine) (cells : length (machin
             sym (word-at thread inThread index (omega arith))));
       }
 
-  -- all threads
+  -- once all threads' heads and stretches are written, the image is whole
   pub written-all : (image : List ℕ) (thread : ℕ) → threadCount ≤ thread → WrittenTo machine image thread → image ≡ imageOf machine
   written-all image thread past at =
       ext-getD 0 image (imageOf machine) (at .as-long ∙ sym (reads .lengthIs))

@@ -18,12 +18,13 @@ use Rattle.undo.specs.Regions.{oldestRegion, storeTestsOn}
 use Rattle.undo.specs.declared.Event.the-variants.{Store, Acquire, Release}
 use Rattle.kinds.specs.Kinds.{Kind, LOAD, LOG, STORE, ACQUIRE, LOGREL, RELEASE, FLUSH, FLUSHLOG, FENCE, PRUNE, EVICT, EVICTLOG, kindOf}
 use Rattle.kinds.specs.Kinds.{inputAnswer}
-use Rattle.accesses.specs.Clocks.{clockAt, joinOf, raiseOf, loadedOf, loggedCellOf}
+use Rattle.clocks.specs.Clocks.{clockAt, joinOf, raiseOf}
+use Rattle.accesses.specs.Accesses.{loadedOf, loggedCellOf}
 use Rattle.accesses.specs.Loads.{loadOn}
 use Rattle.accesses.specs.Logs.{logOn}
 use Rattle.accesses.specs.declared.Loaded.{Loaded}
 use Rattle.accesses.specs.declared.Logged.{Logged}
-use Rattle.accesses.proofs.ClockLaws.{raise-grows}
+use Rattle.clocks.proofs.ClockLaws.{raise-grows}
 use Rattle.locks.specs.Locks.{takenBy, freeOf, countedLocks}
 use Rattle.locks.specs.LockSteps.{acquireOn, logReleaseOn, releaseOn}
 use Rattle.locks.specs.declared.Handed.{Handed}

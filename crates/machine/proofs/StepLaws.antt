@@ -10,7 +10,7 @@ use Rattle.answer.specs.declared.Answer.{Answer}
 use Rattle.answer.specs.declared.Answer.the-variants.{NoSuchKind}
 use Rattle.answer.proofs.RefusalLaws.{AllFail, AllRefuse, allRefuse-append, unless-cases}
 use Rattle.kinds.proofs.Inputs.{input-refuses}
-use Rattle.ring.specs.Ring.{roomTests}
+use Rattle.append.specs.Append.{roomTests}
 use Rattle.log.specs.Entries.{evictSlotTests}
 use Rattle.machine.specs.Effects.{effect}
 use Rattle.kinds.specs.Kinds.{Kind, LOAD, LOG, STORE, ACQUIRE, LOGREL, RELEASE, FLUSH, FLUSHLOG, FENCE, PRUNE, EVICT, EVICTLOG, kindOf}

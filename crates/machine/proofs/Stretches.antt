@@ -24,11 +24,11 @@ use Rattle.machine.proofs.StepLaws.{after-keeps}
 slotCounts : List Log → List ℕ
 slotCounts logs = map (λ log. length (log .persisted)) logs
 
--- each log has 64 of them
+-- each log has 64 persisted slots
 pub record Stretched (machine : Machine) : Type 0 where
   whole : slotCounts (machine .logs) ≡ replicate threadCount slotCount
 
--- a log that is put in place has as many as the one that stood there
+-- a log that is put in place of one with as many persisted slots leaves the logs' counts of slots as they were
 module _ (machine : Machine) (thread : ℕ) (log : Log) where
   put-same : length (log .persisted) ≡ length (logOf machine thread .persisted)
       → slotCounts (withLog machine thread log .logs) ≡ slotCounts (machine .logs)
@@ -59,7 +59,7 @@ start-stretched : (words : List ℕ) → Stretched (startOf words .machine)
 unfolding freshLog slotCounts
 start-stretched words = on-start Stretched (λ cells isLength. record { whole = refl }) words
 
--- every machine that the start call and steps lead to
+-- on every machine that the start call and steps lead to each log has 64 persisted slots
 pub reached-stretched : (machine : Machine) → Reached machine → Stretched machine
 reached-stretched machine reached =
     subst (λ (m : Machine). Stretched m) (sym (reached .leads))

@@ -2,7 +2,8 @@
 use Prim.Native.Nat.{ℕ}
 use mathlib.Core.Bool.{Bool, not}
 use lib.ListN.{getD}
-use Rattle.accesses.specs.Clocks.{clockAt, isKnown, hasUnknown}
+use Rattle.clocks.specs.Clocks.{clockAt, isKnown}
+use Rattle.accesses.specs.Accesses.{hasUnknown}
 use Rattle.machine.specs.Holds.{clockOf}
 use Rattle.machine.specs.declared.Machine.{Machine}
 

@@ -7,7 +7,8 @@ use Rattle.log.specs.Entries.{flushLogOf, fenceLogOf, evictSlotOf, dropOf}
 use Rattle.undo.specs.Regions.{oldestRegion}
 use Rattle.undo.specs.declared.Event.{Event}
 use Rattle.undo.specs.declared.Event.the-variants.{Store, Acquire, Release}
-use Rattle.accesses.specs.Clocks.{joinOf, raisedOf, loadedOf, loggedCellOf}
+use Rattle.clocks.specs.Clocks.{joinOf, raisedOf}
+use Rattle.accesses.specs.Accesses.{loadedOf, loggedCellOf}
 use Rattle.machine.specs.Clocks.{stampNow}
 use Rattle.machine.specs.Holds.{logOf, lockOf, clockOf, lockClockOf, withCache, withLog, withAccesses, withLock, withClock}
 use Rattle.machine.specs.Holds.{withLockClock, withLocks}

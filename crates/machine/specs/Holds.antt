@@ -11,11 +11,11 @@ use Rattle.cache.specs.declared.Cache.{Cache}
 use Rattle.ring.specs.Ring.{lsn}
 use Rattle.log.specs.Entries.{freshLog}
 use Rattle.log.specs.declared.Log.{Log}
-use Rattle.ring.specs.declared.Releasing.the-variants.{Nothing}
+use Rattle.tail.specs.declared.Releasing.the-variants.{Nothing}
 use Rattle.accesses.specs.declared.Accesses.{Accesses}
-use Rattle.accesses.specs.declared.Clock.{Clock}
+use Rattle.clocks.specs.declared.Clock.{Clock}
 use Rattle.locks.specs.declared.Lock.{Lock}
-use Rattle.accesses.specs.Clocks.{noClock, startClocks}
+use Rattle.clocks.specs.Clocks.{noClock, startClocks}
 use Rattle.locks.specs.Locks.{noLock}
 use Rattle.machine.specs.declared.Machine.{Machine}
 use Rattle.machine.specs.declared.Stepped.{Stepped}
@@ -42,7 +42,7 @@ clockOf machine thread = getD (machine .clocks) thread noClock
 abbrev pub lockClockOf : Machine → ℕ → Clock
 lockClockOf machine lock = getD (machine .«lock_clocks») lock noClock
 
--- the same machine with another cache, log, access record, locks, lock, or clock
+-- the machine with another cache, log, access record, locks, lock, or clock
 abbrev pub withCache : Machine → Cache → Machine
 withCache machine cache = record {
   cache = cache;

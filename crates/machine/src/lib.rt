@@ -1,4 +1,5 @@
-// The machine of document 01: four threads' logs over one cache, the locks, and the clocks that decide races. Each kind of step has its method.
+// The machine of document 01: four threads' logs over one cache, the locks, and the clocks that decide races. Each kind of step has its
+// method.
 ghost use mathlib.Core.Path.{_≡_};
 ghost use Prim.Native.Nat.{_<_};
 ghost use lib.ListN.{length};
@@ -10,11 +11,11 @@ ghost use Rattle.machine.specs.Image.{logInto, cutOf};
 ghost use Rattle.machine.specs.Runs.{Reached};
 ghost use Rattle.machine.specs.Steps.{stepOf};
 use accesses::Accesses;
-use accesses::Clock;
 use accesses::STAMPS;
 use accesses::log_cell;
 use answer::Answer;
 use cache::Cache;
+use clocks::Clock;
 use kinds::ACQUIRE;
 use kinds::EVICT;
 use kinds::EVICTLOG;
@@ -166,7 +167,8 @@ impl Machine {
         }
     }
 
-    // LOG: a STORE entry with the cell's cached content, where every earlier access of the cell that may race happens before. Answers its LSN.
+    // LOG: a STORE entry with the cell's cached content, where every earlier access of the cell that may race happens before. Answers its
+    // LSN.
     pub fn log(mut self, thread: u64, cell: u64) -> Stepped
         requires { ⌜ Reached self ⌝ }
         ensures { λ r. ⌜ r ≡ stepOf self 2 thread cell 0 ⌝ }
@@ -216,7 +218,8 @@ impl Machine {
         }
     }
 
-    // ACQUIRE: takes a free lock, with an ACQUIRE entry of its count. The thread knows what the lock's last RELEASE knew. Answers the count.
+    // ACQUIRE: takes a free lock, with an ACQUIRE entry of its count. The thread knows what the lock's last RELEASE knew. Answers the
+    // count.
     pub fn acquire(mut self, thread: u64, lock: u64) -> Stepped
         requires { ⌜ Reached self ⌝ }
         ensures { λ r. ⌜ r ≡ stepOf self 4 thread lock 0 ⌝ }
@@ -344,7 +347,7 @@ impl Machine {
             let at = thread as usize;
             let cache = self.cache;
             let log = self.logs[at];
-            let fenced = cache.fence(at);
+            let fenced = writeback::fence(cache, at);
             let durable = log.fence();
             self.cache = fenced;
             self.logs[at] = durable;
@@ -389,7 +392,7 @@ impl Machine {
         let mut answer = input_answer(EVICT, 0, line, 0);
         if answer::number(answer) == 0 {
             let cache = self.cache;
-            let evicted = cache.evict(line as usize);
+            let evicted = writeback::evict(cache, line as usize);
             self.cache = evicted;
         }
         Stepped {

@@ -1,17 +1,45 @@
-// Takes 100,800 steps of all twelve kinds, all accepted, so that a step can be timed: 100 runs of 72 rounds of 14 steps, by the four threads
-// in turn. Prints the number of steps and the sum of the runs' last answers: each run ends in a PRUNE that frees 3 entries.
+// Takes 100,800 steps of all twelve kinds, all accepted, so that a step can be timed: 100 runs of 72 rounds of 14 steps, by the four
+// threads in turn. Prints the number of steps and the sum of the runs' last answers: each run ends in a PRUNE that frees 3 entries.
 ghost use mathlib.Core.Path.{_≡_};
 ghost use lib.ListN.{length};
+use kinds::ACQUIRE;
+use kinds::EVICT;
+use kinds::EVICTLOG;
+use kinds::FENCE;
+use kinds::FLUSH;
+use kinds::FLUSHLOG;
+use kinds::LOAD;
+use kinds::LOG;
+use kinds::LOGREL;
+use kinds::PRUNE;
+use kinds::RELEASE;
+use kinds::STORE;
+use sizes::CELLS;
 
-// A round: ACQUIRE, LOG, FLUSHLOG, FENCE, STORE, LOAD, LOGREL, FLUSHLOG, FLUSH, FENCE, RELEASE, EVICT, EVICTLOG, PRUNE.
-const KINDS: [u64; 14] = [4, 2, 8, 9, 3, 1, 5, 8, 7, 9, 6, 11, 12, 10];
+// The kinds of a round's steps.
+const KINDS: [u64; 14] = [
+    ACQUIRE,
+    LOG,
+    FLUSHLOG,
+    FENCE,
+    STORE,
+    LOAD,
+    LOGREL,
+    FLUSHLOG,
+    FLUSH,
+    FENCE,
+    RELEASE,
+    EVICT,
+    EVICTLOG,
+    PRUNE,
+];
 
-// The place in each: lock 2, cell 5, lines 0 and 3. EVICTLOG's slot depends on the round.
+// The place of each step of a round: lock 2, cell 5, lines 0 and 3. EVICTLOG's slot depends on the round.
 const PLACES: [u64; 14] = [2, 5, 0, 0, 5, 5, 2, 0, 0, 0, 2, 3, 0, 0];
 
 // The thread of a round's step: EVICT has none.
 fn thread_of(kind: u64, round: u64) -> u64 {
-    if kind == 11 {
+    if kind == EVICT {
         return 0;
     }
     round % 4
@@ -19,7 +47,7 @@ fn thread_of(kind: u64, round: u64) -> u64 {
 
 // The place of a round's step. A thread makes three entries in every fourth round, the second by its LOG, which EVICTLOG names by its slot.
 fn place_of(kind: u64, place: u64, round: u64) -> u64 {
-    if kind == 12 {
+    if kind == EVICTLOG {
         return (round / 4 % 64 * 3 + 2) % 64;
     }
     place
@@ -70,7 +98,7 @@ fn write_number(number: u64, end: &[u8]) {
 }
 
 fn main() {
-    let start = [0u64; 128];
+    let start = [0u64; CELLS];
     let steps = all_steps();
     let mut runs = 0u64;
     let mut sum = 0u64;

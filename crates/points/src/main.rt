@@ -206,7 +206,7 @@ fn point_6() -> bool {
     answers(steps, 8, 0)
 }
 
-// The thread then writes cell 9 under lock 0. Each entry is flushed and fenced before the STORE, or the RELEASE, that needs it.
+// The steps, and then the thread writes cell 9 under lock 0. Each entry is flushed and fenced before the STORE or RELEASE that needs it.
 fn makes(steps: Steps, thread: u64, value: u64) -> Steps {
     let logged = steps.then(ACQUIRE, thread, 0, 0).then(LOG, thread, 9, 0);
     let stored = logged

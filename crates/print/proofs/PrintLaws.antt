@@ -8,9 +8,9 @@ use borrow.Author.Tests.{eq-eqb, ne-eqb}
 use lib.ListN.{length, getD, take, drop, length-append, take-append-drop, drop-of-length-le}
 use lib.Seq.{length-take-le, take-length}
 use Rattle.line.specs.Text.{ascii, decimalText}
-use Rattle.print.specs.Buffers.{written, placeAfter}
+use Rattle.buffer.specs.Buffers.{written, placeAfter}
 use Rattle.print.specs.Printed.{cellText, cellsText}
-use Rattle.print.proofs.BufferLaws.{Wrote, wrote-more, wrote-long, pasted, Upto}
+use Rattle.buffer.proofs.BufferLaws.{Wrote, wrote-more, wrote-long, pasted, Upto}
 use Rattle.line.proofs.TextLaws.{drop-first}
 
 -- the pieces of a cell's line
@@ -21,13 +21,13 @@ unfolding cellText
 cell-line cell content line = line .wrote
 
 module _ (cells : List ℕ) (i : ℕ) where
-  -- one more cell, which isn't 0
+  -- a cell that isn't 0 has its line before those of the cells after it
   pub cells-on : i < length cells → (getD cells i 0 ≡ 0 → ⊥) →
       cellsText i (drop i cells) ≡ cellText i (getD cells i 0) ++ cellsText (i + 1) (drop (i + 1) cells)
   unfolding cellsText
   cells-on within some = rw (drop-first cells i within, ne-eqb (getD cells i 0) 0 some, add-one)
 
-  -- one more cell, which is 0
+  -- a cell that is 0 has no line before those of the cells after it
   pub cells-skip : i < length cells → getD cells i 0 ≡ 0 → cellsText i (drop i cells) ≡ cellsText (i + 1) (drop (i + 1) cells)
   unfolding cellsText
   cells-skip within none = rw (drop-first cells i within, eq-eqb (getD cells i 0) 0 none, add-one)

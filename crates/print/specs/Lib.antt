@@ -1,3 +1,2 @@
--- What is printed, in a lent buffer.
-pub mod Buffers
+-- What is printed of a step, of a recovered cell and of a cut.
 pub mod Printed

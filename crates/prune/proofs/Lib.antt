@@ -1,2 +1,2 @@
--- Laws of the oldest region, and of PRUNE's tests.
-pub mod OldestLaws
+-- What PRUNE's tests answer.
+pub mod PruneLaws

@@ -13,13 +13,13 @@ use lib.Dec.{eqb, ltb}
 use lib.Seq.{getD-set-same, getD-set-other}
 use Rattle.sizes.specs.Sizes.{threadCount, lockCount}
 use Rattle.answer.specs.Lists.{someBelow}
+use Rattle.answer.proofs.Searches.{search-same}
 use Rattle.ring.specs.Ring.{slotCount}
 use Rattle.undo.specs.Events.{syncCount}
 use Rattle.undo.specs.declared.SyncCount.{SyncCount}
 use Rattle.image.specs.Stored.{StoredLog, entryKind, entryPlace, entryValue}
 use Rattle.image.specs.Reading.{logIn, entryIn, Good}
 use Rattle.image.specs.declared.Entry.{Entry}
-use Rattle.image.proofs.Searches.{search-same}
 use Rattle.image.proofs.GoodEntries.{good-acquire}
 use Rattle.recovery.specs.Undo.{hasLaterAcquire}
 use Rattle.recovery.specs.Latest.{latestAcquire, lockOf, countsOf, rowWith, countOf, withCount, rowOf, earlierOf, laterOf, Remembers}
@@ -74,7 +74,7 @@ module _ (count : SyncCount) (entry : Entry) where
   pub later-other : (entry .kind ≡ 2 → ⊥) → count ≡ laterOf count entry
   later-other other = rw (ne-eqb (entry .kind) 2 other)
 
--- the other locks have no ACQUIRE in an entry of this one
+-- an entry of a lock leaves the latest ACQUIREs of the other locks as they are
 latest-others : (log : StoredLog) (index lock : ℕ) → Good (entryIn log index) → lock < lockCount →
     (lock ≡ lockOf (entryPlace log index) → ⊥) →
     latestAcquire log (suc index) lock ≡ latestAcquire log index lock
@@ -109,7 +109,7 @@ module _ (row : Latest) (thread : ℕ) where
   unfolding withCount
   counts-with count = row-counts (set (countsOf row) thread count) (length-set (countsOf row) thread count)
 
-  -- another count for one thread
+  -- a row with another count for one thread has it for that thread, and for each other thread what it had
   count-here : (count : SyncCount) → thread < threadCount → countOf (withCount row thread count) thread ≡ count
   unfolding countOf
   count-here count inside =
@@ -310,7 +310,7 @@ module _ {image : List ℕ} {seen : ℕ → ℕ} {latest : List Latest} {earlier
       earlierIs = λ t index t-inside below. old .earlierIs t index t-inside (fewer-below t index t-inside below);
     }
 
-  -- the same entries by another name
+  -- where each thread has as many entries by another count, the same is remembered
   pub remember-same : (next : ℕ → ℕ) → ((thread : ℕ) → thread < threadCount → next thread ≡ seen thread) →
       Remembers image next latest earlier
   remember-same next same = record {

@@ -15,7 +15,7 @@ use Rattle.answer.specs.Lists.{someBelow, mixFrom}
 use Rattle.answer.specs.Refusals.{Test, _⇒_, unless, Outcome}
 use Rattle.answer.specs.declared.Answer.{Answer}
 use Rattle.answer.specs.declared.Answer.the-variants.{Accepted, WrongLength, BadHead, BadEntry, Cyclic}
-use Rattle.answer.proofs.ListLaws.{tab-same, length-mixFrom}
+use Rattle.answer.proofs.ListLaws.{cond-same, tab-same, length-mixFrom}
 use Rattle.log.specs.Stretch.{imageWords, headsAt, stretchAt, stretchWords, stretchOf}
 use Rattle.image.specs.Stored.{StoredLog, storedLogs, storedLog, presentIn, entryKind, entryPlace, entryValue}
 use Rattle.image.specs.Tests.{isBadHead, hasBadEntry, imageTests}
@@ -29,13 +29,9 @@ pub mixFrom-same : (test : ℕ → Bool) (place : ℕ) (list : List ℕ) → mix
 unfolding mixFrom
 mixFrom-same test place [] = refl
 mixFrom-same test place (one ∷ list) =
-    ap₂ (λ (first : ℕ) (rest : List ℕ). first ∷ rest) (either (test place)) (mixFrom-same test (suc place) list)
-  where
-    either : (holds : Bool) → cond holds one one ≡ one
-    either true = refl
-    either false = refl
+    ap₂ (λ (first : ℕ) (rest : List ℕ). first ∷ rest) (cond-same (test place) one) (mixFrom-same test (suc place) list)
 
--- what is set in both is set in the mixture
+-- what is set in two lists is set in their mixture
 pub mixFrom-set : (test : ℕ → Bool) (place : ℕ) (news list : List ℕ) (at value : ℕ) → length news ≡ length list
     → mixFrom test place (set news at value) (set list at value) ≡ set (mixFrom test place news list) at value
 unfolding mixFrom
@@ -43,11 +39,7 @@ mixFrom-set test place [] [] at value long = refl
 mixFrom-set test place (new ∷ news) [] at value long = absurd (suc-ne-zero (length news) long)
 mixFrom-set test place [] (old ∷ list) at value long = absurd (suc-ne-zero (length list) (sym long))
 mixFrom-set test place (new ∷ news) (old ∷ list) zero value long =
-    ap (λ (first : ℕ). first ∷ mixFrom test (suc place) news list) (either (test place))
-  where
-    either : (holds : Bool) → cond holds value value ≡ value
-    either true = refl
-    either false = refl
+    ap (λ (first : ℕ). first ∷ mixFrom test (suc place) news list) (cond-same (test place) value)
 mixFrom-set test place (new ∷ news) (old ∷ list) (suc at) value long =
     ap (λ (rest : List ℕ). cond (test place) new old ∷ rest) (mixFrom-set test (suc place) news list at value (suc-inj long))
 
@@ -57,7 +49,7 @@ abbrev undoOf : List ℕ → List ℕ → Undo
 undoOf left cells = record { left = left; cells = cells }
 
 module _ (test : ℕ → Bool) (logs : List StoredLog) where
-  -- a STORE's value is set in all three, or nothing is
+  -- a STORE's value is set in both lists and in their mixture, or nothing is
   cells-mix : (isStore : Bool) (cell value : ℕ) (news olds : List ℕ) → length news ≡ length olds
       → cond isStore (set (mixFrom test 0 news olds) cell value) (mixFrom test 0 news olds)
       ≡ mixFrom test 0 (cond isStore (set news cell value) news) (cond isStore (set olds cell value) olds)
@@ -168,7 +160,7 @@ tests-are : (image buffer : List ℕ) → recoverTests image buffer ≡ testsWit
 unfolding recoverTests imageTests hasLeft
 tests-are image buffer = refl
 
--- a refusal is the same for all three, and where none is given the cells are the mixture
+-- a refusal is the same for two lists of cells and for their mixture, and where none is given the cells are the mixture
 unless-mixes : (test : ℕ → Bool) (buffer news olds : List ℕ) (tests : List Test)
     → let refuse : Answer → Outcome = λ answer. record { answer = answer; buffer = buffer } in
     let outcome : List ℕ → Outcome = λ cells. unless refuse tests (record { answer = Accepted 0; buffer = cells }) in

@@ -87,7 +87,7 @@ module _ {image left : List ℕ} (readable : Readable image) (left-is : left ≡
     pub thread-inside : thread < threadCount
     thread-inside = omega arith
 
-    -- the other threads' places are all before this one, or all after it
+    -- one place on, no more is seen of the other threads: their places are all before this one, or all after it
     others-seen : (other : ℕ) → other < threadCount → (other ≡ thread → ⊥) → seenOf left (place + 1) other ≡ seenOf left place other
     others-seen other inside another =
         by-cases (decLt other thread)
@@ -131,7 +131,7 @@ module _ {image left : List ℕ} (readable : Readable image) (left-is : left ≡
           (seenOf left (place + 1)) (seen-next ∙ omega (arith, seen-here)) others-seen in
           rw is (rw at at more)
 
-    -- a place without one: no later place of the thread has one
+    -- a place without an entry: no later place of the thread has one
     pub pass-over : {latest : List Latest} {earlier : List SyncCount} → leftOf left thread ≤ index →
         Remembers image (seenOf left place) latest earlier →
         Remembers image (seenOf left ((thread + 1) * slotCount)) latest earlier

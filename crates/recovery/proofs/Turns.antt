@@ -111,7 +111,7 @@ module _ {image left cells : List ℕ} {latest : List Latest} {earlier : List Sy
         lowestFrom (storedLogs image) left (thread + 1) (threadCount - (thread + 1))
     later-ones = at .passed ∙ lowest-later (storedLogs image) left thread threadCount (at .inside) mayNot
 
-    -- nor any other's
+    -- where the last entry of no thread up to the last one may be taken, the undo is done
     pub turns-stop : thread + 1 ≡ threadCount → state left cells ≡ undone image
     turns-stop past =
         sym

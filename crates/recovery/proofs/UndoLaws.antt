@@ -39,7 +39,7 @@ module _ (logs : List StoredLog) (left : List ℕ) where
       may-take-release release =
           rw (ne-eqb (leftOf left thread) 0 has, eq-eqb (entryKind (storedLog logs thread) last) 3 release)
 
-    -- what may be taken is there
+    -- a thread whose last entry may be taken has an entry left
     pub may-take-has : mayTake logs left thread ≡ true → leftOf left thread ≡ 0 → ⊥
     may-take-has may nothing = let never : _≡_ {A = ℕ} 0 1 = cc (may-take-nothing nothing) in omega arith
 
@@ -61,7 +61,7 @@ module _ (logs : List StoredLog) (left : List ℕ) where
   unfolding lowestFrom
   lowest-nowhere thread n past = let no-more : n - thread ≡ 0 = omega arith in rw no-more
 
-  -- the lowest thread found is one of them, and its last entry may be taken
+  -- the lowest thread found is one of those searched, and its last entry may be taken
   pub lowest-may : (thread count found : ℕ) → lowestFrom logs left thread count ≡ some found →
       (found < thread + count) × (mayTake logs left found ≡ true)
   unfolding lowestFrom
@@ -87,7 +87,7 @@ module _ (logs : List StoredLog) (undo : Undo) where
   take-nothing nobody zero = refl
   take-nothing nobody (suc count) = rw nobody (take-nothing nobody count)
 
-  -- one turn of n
+  -- one turn of n takes the last entry of the lowest thread
   pub take-one : (thread turn n : ℕ) → turn < n → lowestFrom logs (undo .left) 0 threadCount ≡ some thread →
       takeMany (n - turn) logs undo ≡ takeMany (n - (turn + 1)) logs (takeLast logs undo thread)
   unfolding takeMany takeNext

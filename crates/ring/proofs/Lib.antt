@@ -1,4 +1,2 @@
--- What the tests of an append decide, and the machine values of what it takes and gives.
-pub mod Room
-pub mod Values
+-- The slots of a run of LSNs.
 pub mod Slots

@@ -1,2 +1,2 @@
--- LSNs, slots and the thread's record. Nothing here names a thread, and nothing says what an entry holds.
+-- LSNs and slots. Nothing here names a thread.
 pub mod Ring

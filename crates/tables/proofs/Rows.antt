@@ -7,13 +7,15 @@ use lib.Dec.{T, eqb, eqb→eq}
 use Rattle.answer.specs.Lists.{tab, someBelow, setFrom, mixFrom}
 use Rattle.answer.specs.Refusals.{unless}
 use Rattle.cache.specs.Cache.{cacheOf, storeOf, flushOf, fenceOf, evictOf}
-use Rattle.ring.specs.Ring.{freshTail, grownTail, roomTests, flushedTail, fencedTail, releasedTail}
+use Rattle.tail.specs.Tail.{freshTail, flushedTail, fencedTail, releasedTail}
+use Rattle.append.specs.Append.{grownTail, roomTests}
 use Rattle.log.specs.Entries.{wordsOf, freshLog, isLiveSlot, flushLogOf, persistSlot, persistFrom, fenceLogOf, evictSlotTests, evictSlotOf}
 use Rattle.log.specs.Entries.{dropOf, appendOf}
 use Rattle.undo.specs.Events.{endReleaseOf, eventOf}
 use Rattle.undo.specs.Regions.{loggedAmong, loggedOf, goesOn, oldestRegion, isFinished}
 use Rattle.log.specs.Stretch.{stretchOf, holds, presentFrom, presentOf}
-use Rattle.accesses.specs.Clocks.{clockAt, joinOf, raisedOf, loadedOf, loggedCellOf}
+use Rattle.clocks.specs.Clocks.{clockAt, joinOf, raisedOf}
+use Rattle.accesses.specs.Accesses.{loadedOf, loggedCellOf}
 use Rattle.machine.specs.Effects.{loadEffect, logEffect, storeEffect, acquireEffect, logReleaseEffect, releaseEffect, flushEffect}
 use Rattle.machine.specs.Effects.{flushLogEffect, fenceEffect, pruneEffect, evictEffect, evictLogEffect, effect}
 use Rattle.machine.specs.Holds.{freshMachine, startOf}

@@ -13,7 +13,7 @@ use Rattle.answer.specs.declared.Answer.the-variants.{Race, AlreadyLogged, NotL
 use Rattle.answer.specs.declared.Answer.the-variants.{NothingToPrune, EarlierReleaseNotPruned, CellNotDurable, NoLiveEntry, Unreadable}
 use Rattle.answer.specs.declared.Answer.the-variants.{WrongLength, BadHead, BadEntry, Cyclic}
 use Rattle.ring.specs.Ring.{lsn}
-use Rattle.ring.specs.declared.Releasing.the-variants.{Nothing}
+use Rattle.tail.specs.declared.Releasing.the-variants.{Nothing}
 use Rattle.log.specs.Entries.{zeros}
 use Rattle.log.specs.Stretch.{stretchOf}
 use Rattle.machine.specs.Holds.{startOf, withLog}
@@ -37,7 +37,7 @@ ran steps = machineAfter numbered steps
 unfoldable pub asks : Machine → List Step → List ℕ
 asks machine steps = map (λ next. numberOf (stepWith machine next .answer)) steps
 
--- those of steps taken one after the other, and the numbers that these give
+-- the numbers of the answers of steps taken one after the other, and the numbers given beside the answers
 unfoldable pub takes : Machine → List Step → List ℕ
 takes machine steps = map numberOf (answers machine steps)
 
@@ -81,7 +81,7 @@ closes7 = logs127 ++ (LOGREL 3 7 ∷ FLUSHLOG 3 ∷ FENCE 3 ∷ [])
 unfoldable pub released7 : List Step
 released7 = closes7 ++ (RELEASE 3 7 ∷ [])
 
--- "First match in this order", and before those of the state
+-- the refusals because of the input: "First match in this order", and before those because of the state
 unfoldable pub inputRows : List Row
 inputRows =
     -- "1: kind not 1 to 12."
@@ -138,7 +138,7 @@ stateRows =
     -- no current region, so with 7 a LOG never has 9, and a STORE always 10 and never 11
     (asks (ran closing) (LOG 0 6 ∷ LOG 0 5 ∷ LOG 0 9 ∷ STORE 0 5 1 ∷ STORE 0 6 1 ∷ []) gives replicate 5 7) ∷
     (asks (ran closing) (ACQUIRE 0 1 ∷ ACQUIRE 0 0 ∷ LOGREL 0 0 ∷ LOGREL 0 1 ∷ []) gives replicate 4 7) ∷
-    -- the other kinds do not ask for it, and another thread is not closing
+    -- LOAD, FLUSH, FLUSHLOG, FENCE, EVICT and EVICTLOG do not ask for 7, and another thread is not closing
     (asks (ran closing) (LOAD 0 5 ∷ FLUSH 0 0 ∷ FLUSHLOG 0 ∷ FENCE 0 ∷ EVICT 0 ∷ EVICTLOG 0 2 ∷ []) gives replicate 6 0) ∷
     (asks (ran closing) (LOG 1 6 ∷ ACQUIRE 1 1 ∷ []) gives 0 ∷ 0 ∷ []) ∷
     -- RELEASE "14: not closing on this lock", also where 11 would follow; "11: some live entry up to .. the RELEASE entry .. isn't firm"
@@ -177,8 +177,8 @@ stateRows =
 unfoldable pub follows : List Step
 follows = ACQUIRE 1 0 ∷ LOG 1 9 ∷ LOG 1 20 ∷ FLUSHLOG 1 ∷ FENCE 1 ∷ STORE 1 9 5 ∷ STORE 1 20 6 ∷ LOG 1 30 ∷ []
 
--- its PRUNE at first, when an ACQUIRE has ended its region, when its entries are firm, when thread 0's region is pruned, and when its cells
--- are firm; and one more
+-- thread 1's PRUNE at first, when an ACQUIRE has ended its region, when its entries are firm, when thread 0's region is pruned, and when
+-- its cells are firm; and one more
 unfoldable pub prunes : List Step
 prunes =
     (PRUNE 1 ∷ ACQUIRE 1 1 ∷ PRUNE 1 ∷ FLUSHLOG 1 ∷ FENCE 1 ∷ PRUNE 1 ∷ []) ++
@@ -237,8 +237,8 @@ crowded =
     (fromRank 0 999936)
     ((LOG 1 100 ∷ ACQUIRE 1 1 ∷ LOG 0 127 ∷ ACQUIRE 0 3 ∷ ACQUIRE 0 0 ∷ []) ++ tab 60 (λ cell. LOG 0 cell))
 
--- then 64 are live; then 63, and one rank is left; then thread 0 is closing, 64 are live and no rank is left; then it has released; then 63
--- are live
+-- runs on `crowded`, after which 64 entries of thread 0 are live; 63, and one rank is left; it is closing, 64 are live and no rank is
+-- left; it has released; 63 are live
 unfoldable pub runsOut : List (List Step)
 runsOut =
     (LOG 0 60 ∷ []) ∷
@@ -280,7 +280,7 @@ worked =
 unfoldable pub turns : List Step
 turns = makes 0 4 ++ makes 1 5 ++ makes 0 6
 
--- then thread 2 takes that lock and another, cell 9 is kept, and the three regions are pruned
+-- thread 2 takes lock 0 and another, cell 9 is kept, and the three regions that wrote it are pruned
 unfoldable pub afterTurns : List Step
 afterTurns =
     (ACQUIRE 2 0 ∷ LOAD 2 9 ∷ LOAD 2 127 ∷ ACQUIRE 2 1 ∷ LOGREL 2 0 ∷ []) ++
@@ -333,13 +333,13 @@ stored =
     (LOG 0 7 ∷ LOG 0 8 ∷ LOG 0 15 ∷ LOG 0 16 ∷ FLUSHLOG 0 ∷ FENCE 0 ∷ []) ++
     (STORE 0 7 1 ∷ STORE 0 8 2 ∷ STORE 0 15 3 ∷ STORE 0 16 4 ∷ [])
 
--- the kept contents of these four cells after further steps
+-- the kept contents of cells 7, 8, 15 and 16 after the STOREs to them and further steps
 unfoldable pub keeps : List Step → List ℕ
 keeps steps =
     let image = imageOf (ran (stored ++ steps)) in
     map (λ cell. getD image cell 0) (7 ∷ 8 ∷ 15 ∷ 16 ∷ [])
 
--- their region is ended, and further steps are taken before its PRUNE
+-- what PRUNE answers once the region with the STOREs to cells 7, 8, 15 and 16 is ended and further steps are taken
 unfoldable pub frees : List Step → List ℕ
 frees steps = asks (ran (stored ++ (ACQUIRE 0 0 ∷ []) ++ steps)) (PRUNE 0 ∷ [])
 

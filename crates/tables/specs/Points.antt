@@ -75,11 +75,11 @@ lastAnswered words steps last =
 abbrev pub leaves : Outcome → List ℕ
 leaves found = numberOf (found .answer) ∷ found .buffer
 
--- the same after a recovery of an image
+-- the answer's number and the words of the lent buffer, after a recovery of an image
 unfoldable pub outcome : List ℕ → List ℕ
 outcome image = leaves (recoverOf image lent)
 
--- the same after a cut
+-- the answer's number and the words of the lent buffer, after a recovery of the image of a cut
 unfoldable pub recovered : List ℕ → List Step → List ℕ
 recovered words steps = outcome (imageOf (machineAfter words steps))
 
@@ -87,7 +87,7 @@ recovered words steps = outcome (imageOf (machineAfter words steps))
 unfoldable pub imaged : List ℕ → List Step → ℕ → List ℕ
 imaged words steps cell = getD (imageOf (machineAfter words steps)) cell 0 ∷ []
 
--- an image of cells of these words, with heads 1 and empty logs
+-- an image of cells 0, with heads 1 and empty logs
 unfoldable pub emptyImage : List ℕ
 emptyImage = sets (replicate imageWords 0) headsAt (1 ∷ 1 ∷ 1 ∷ 1 ∷ [])
 

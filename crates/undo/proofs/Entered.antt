@@ -27,7 +27,7 @@ entered log event [] refusals = refl
 entered log event ((true ⇒ answer) ∷ own) refusals = rw (refusals .0)
 entered log event ((false ⇒ answer) ∷ own) refusals = entered log event own (refusals .1)
 
--- whatever else these tests decide goes the same way
+-- whatever else a step's tests decide goes the same way as the change of a log under them
 module _ {A : Type 0} (refuse : Answer → A) (outcome : A) (log next : Log) (given : ℕ) (tests : List Test) (refusals : AllRefuse tests)
     {changed : Changed} (is : changed ≡ changedBy log next given tests) where
   -- the outcome beside the change

@@ -88,7 +88,7 @@ goes-on log index (suc count) =
     by-tests false acquires false releases later =
         goes-further (liveEvent log) index count (goesOn log (suc index) count) acquires releases later
 
--- and these are at most all of them
+-- of so many live entries at most all go on the region before them
 pub goes-most : (log : Log) (index count : ℕ) → goesOn log index count ≤ count
 goes-most log index count = goes-on log index count .most
 

@@ -7,7 +7,7 @@ use native.Mathlib.Omega.{arith}
 use borrow.Author.Tests.{eq-eqb, ne-eqb}
 use lib.Dec.{eqb}
 use Rattle.answer.proofs.RefusalLaws.{AllFail}
-use Rattle.ring.specs.Ring.{releasedTail}
+use Rattle.tail.specs.Tail.{releasedTail}
 use Rattle.log.specs.Entries.{isLiveSlot, appendTests, flushLogOf, fenceLogOf, evictSlotOf, dropOf}
 use Rattle.log.specs.declared.Log.{Log}
 use Rattle.log.specs.declared.Payload.{Payload}

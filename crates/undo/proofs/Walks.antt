@@ -3,7 +3,8 @@ use Prim.Native.Nat.{ℕ, zero, suc, _+_, _-_, _<_}
 use mathlib.Core.Path.{_≡_, refl}
 use mathlib.Core.List.{List, []}
 use native.Mathlib.Omega.{arith}
-use Rattle.ring.specs.Ring.{lsn, freshTail}
+use Rattle.ring.specs.Ring.{lsn}
+use Rattle.tail.specs.Tail.{freshTail}
 use Rattle.undo.specs.Events.{liveEvent}
 use Rattle.undo.specs.Regions.{searched, loggedAmong}
 use Rattle.ring.specs.declared.Lsn.{Lsn}

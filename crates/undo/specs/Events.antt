@@ -4,9 +4,9 @@ use mathlib.Core.Bool.{cond}
 use lib.Dec.{eqb}
 use Rattle.answer.specs.Answer.{isAccepted}
 use Rattle.answer.specs.declared.Answer.{Answer}
-use Rattle.ring.specs.Ring.{releasedTail}
-use Rattle.ring.specs.declared.Releasing.{Releasing}
-use Rattle.ring.specs.declared.Releasing.the-variants.{Nothing, Lock}
+use Rattle.tail.specs.Tail.{releasedTail}
+use Rattle.tail.specs.declared.Releasing.{Releasing}
+use Rattle.tail.specs.declared.Releasing.the-variants.{Nothing, Lock}
 use Rattle.log.specs.Entries.{saidBy, entryAt, appendOf, appendedOf, withTail}
 use Rattle.log.specs.declared.Changed.{Changed}
 use Rattle.log.specs.declared.Log.{Log}
@@ -44,7 +44,7 @@ valueOf (Release lock count) = count .0
 abbrev pub payloadOf : Event → Payload
 payloadOf event = record { kind = kindOf event; place = placeOf event; value = valueOf event }
 
--- and how an entry is read
+-- how an entry is read as an event
 unfoldable pub eventOf : Payload → Event
 eventOf payload =
     cond (eqb (payload .kind) 1) (Store (payload .place) (payload .value))
@@ -66,7 +66,7 @@ closesOf (Release lock count) = Lock lock
 abbrev pub enterOf : Log → Event → Log
 enterOf log event = appendOf log (payloadOf event) (closesOf event)
 
--- an append of it where a step's own tests answered this: their refusal and the log as it was, or what the append gives
+-- an append of an event where a step's own tests answered this: their refusal and the log as it was, or what the append gives
 unfoldable pub enteredOf : Log → Answer → Event → Changed
 enteredOf log asked event =
     cond (isAccepted asked) (appendedOf log (payloadOf event) (closesOf event)) (record { answer = asked; log = log })

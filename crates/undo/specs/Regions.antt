@@ -6,7 +6,8 @@ use mathlib.Core.List.{List, [], _∷_}
 use lib.Dec.{eqb, ltb}
 use Rattle.answer.specs.Refusals.{Test, _⇒_}
 use Rattle.answer.specs.declared.Answer.the-variants.{Releasing, NotLogged, EntryNotDurable}
-use Rattle.ring.specs.Ring.{lsn, isReleasing}
+use Rattle.ring.specs.Ring.{lsn}
+use Rattle.tail.specs.Tail.{isReleasing}
 use Rattle.log.specs.Entries.{liveCount}
 use Rattle.log.specs.declared.Log.{Log}
 use Rattle.undo.specs.Events.{liveEvent}

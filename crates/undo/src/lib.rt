@@ -10,8 +10,8 @@ use log::Entry;
 use log::Log;
 use log::Payload;
 use ring::Lsn;
-use ring::Releasing;
 use ring::slot_after;
+use tail::Releasing;
 
 pub mod words;
 
@@ -116,7 +116,8 @@ pub fn event_of(entry: Entry) -> Event
     Event::Empty
 }
 
-// Appends the entry where a step's own tests allow it: their refusal, or else what the append answers (its LSN, or 6, then 5), beside the log
+// Appends the entry where a step's own tests allow it: their refusal, or else what the append answers (its LSN, or 6, then 5), beside the
+// log
 // after it.
 pub fn enter(log: Log, asked: Answer, event: Event) -> Changed
     ensures { λ r. ⌜ r ≡ enteredOf log asked event ⌝ }

@@ -1,7 +1,8 @@
 -- `accesses::log_cell` meets its contract: the accesses change where the log gets the entry.
 use borrow.Author.Needs.{needs}
 use Rattle.undo.specs.declared.Event.the-variants.{Store}
-use Rattle.accesses.specs.Clocks.{clockAt, loggedCellOf}
+use Rattle.clocks.specs.Clocks.{clockAt}
+use Rattle.accesses.specs.Accesses.{loggedCellOf}
 use Rattle.accesses.specs.Logs.{logTestsOn, logOn}
 use Rattle.accesses.proofs.EntryLaws.{entry-refused, entry-made}
 use Rattle.accesses.proofs.LogLaws.{log-own-refuses}

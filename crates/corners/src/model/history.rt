@@ -103,7 +103,7 @@ pub(crate) fn is_step(past: &[u64], step: usize, kind: u64, thread: u64, place: 
     is_at(past, step, kind, place)
 }
 
-// The last such step before a step, and 0 where there is none.
+// The last step of this kind, thread and place before a step, and 0 where there is none.
 pub(crate) fn last(past: &[u64], kind: u64, thread: u64, place: u64, before: usize) -> usize {
     let mut step = before;
     while 1 < step {
@@ -115,7 +115,7 @@ pub(crate) fn last(past: &[u64], kind: u64, thread: u64, place: u64, before: usi
     0
 }
 
-// How many such steps there are from a step on and before another.
+// How many steps of this kind, thread and place there are from a step on and before another.
 pub(crate) fn count(
     past: &[u64],
     kind: u64,

@@ -51,7 +51,7 @@ pub(crate) fn head(past: &[u64], thread: u64, before: usize) -> usize {
     )
 }
 
-// The first entry of the region after that.
+// The first entry of the region after the thread's oldest one not yet pruned.
 pub(crate) fn after_head(past: &[u64], thread: u64, before: usize) -> usize {
     region(
         past,

@@ -7,7 +7,7 @@ use native.Mathlib.Omega.{arith}
 use borrow.Author.Needs.{needs}
 use lib.ListN.{length}
 use Rattle.machine.specs.declared.Stepped.{Stepped}
-use Rattle.print.proofs.BufferLaws.{Wrote}
+use Rattle.buffer.proofs.BufferLaws.{Wrote}
 use Rattle.listing.specs.Transcript.{mostInput, startMachine, transcriptRoom}
 use Rattle.listing.proofs.Printing.{Printing, print-refused, print-long, started-reached, printing-start, printing-long}
 use Rattle.listing.proofs.Printing.{printing-unreadable, line-within, stepped-reached, printing-step}

@@ -1,15 +1,29 @@
 -- `cuts::not_zero` meets its contract. The loop's invariant: what is counted and what is left to count are all.
-use Prim.Native.Nat.{_-_}
-use mathlib.Core.Path.{ap, sym, _∙_}
-use mathlib.Core.Bool.{not}
+use Prim.Native.Nat.{ℕ, suc, _+_, _-_}
+use mathlib.Core.Path.{_≡_, refl, ap, sym, _∙_}
+use mathlib.Core.Bool.{Bool, true, false, cond, not}
+use mathlib.Core.List.{List, [], _∷_}
 use mathlib.Core.Logic.{⊎-elim}
+use native.Mathlib.Omega.{arith}
 use lib.ListN.{length}
 use lib.Dec.{eqb}
 use borrow.Author.Needs.{needs}
 use borrow.Author.Tests.{eq-eqb, ne-eqb}
-use Rattle.cuts.proofs.ChoiceLaws.{Counted, counts-start, counts-more, counts-same, counts-end, not-zero-counts}
+use Rattle.choices.specs.Counting.{countIf}
+use Rattle.choices.proofs.ChoiceLaws.{Counted, counts-start, counts-more, counts-same, counts-end}
+use Rattle.cuts.specs.Cuts.{notZero}
 use Rattle.cuts.proofs.not_zero.Statement.{statement}
 use Rattle.cuts.proofs.not_zero.Tie as tie
+
+-- the cells that are not 0, as a count
+not-zero-counts : (cells : List ℕ) → notZero cells ≡ countIf (λ content. not (eqb content 0)) cells
+unfolding notZero countIf
+not-zero-counts [] = refl
+not-zero-counts (content ∷ cells) = rw (not-zero-counts cells) (either (eqb content 0) (countIf (λ one. not (eqb one 0)) cells))
+  where
+    either : (is : Bool) (rest : ℕ) → cond is rest (suc rest) ≡ cond (not is) 1 0 + rest
+    either true rest = omega arith
+    either false rest = omega arith
 
 abbrev Inv-loop : tie.InvT-loop
 Inv-loop cells count₀ cell₀ count cell = Counted (λ content. not (eqb content 0)) cells cell count

@@ -1,7 +1,6 @@
 -- `cuts::write_cut` meets its contract: every choice is found alike, so their number is that of all that are tried.
-use mathlib.Core.Path.{ap, _∙_, subst⁻¹}
+use mathlib.Core.Path.{subst⁻¹}
 use Rattle.machine.specs.Runs.{Reached}
-use Rattle.print.specs.Buffers.{written, placeAfter}
 use Rattle.cuts.proofs.EvictedImage.{after-reached}
 use Rattle.cuts.proofs.AlikeLaws.{cut-found}
 use borrow.Author.Needs.{needs}
@@ -25,15 +24,6 @@ cut-requires-2 c κs =
     let start = c .before .before .before .before .before .before in
     subst⁻¹ Reached (c .before .evict-all .ensures) (after-reached (start .args .machine) _ (start .pre))
 
-slice-aggregate-differing-lines : tie.Need-slice-aggregate-differing-lines
-slice-aggregate-differing-lines c = search needs
-
-slice-aggregate-differing-lines-2 : tie.Need-slice-aggregate-differing-lines-2
-slice-aggregate-differing-lines-2 c = search needs
-
-differing-lines-requires : tie.Need-differing-lines-requires
-differing-lines-requires c κs = search needs
-
 slice-aggregate-recover : tie.Need-slice-aggregate-recover
 slice-aggregate-recover c = search needs
 
@@ -52,8 +42,14 @@ slice-aggregate-recover-4 c = search needs
 recover-requires-2 : tie.Need-recover-requires-2
 recover-requires-2 c κs = search needs
 
-count-alike-requires : tie.Need-count-alike-requires
-count-alike-requires c κs = search needs
+slice-aggregate-alike-choices : tie.Need-slice-aggregate-alike-choices
+slice-aggregate-alike-choices c = search needs
+
+slice-aggregate-alike-choices-2 : tie.Need-slice-aggregate-alike-choices-2
+slice-aggregate-alike-choices-2 c = search needs
+
+alike-choices-requires : tie.Need-alike-choices-requires
+alike-choices-requires c κs = search needs
 
 slice-aggregate-not-zero : tie.Need-slice-aggregate-not-zero
 slice-aggregate-not-zero c = search needs
@@ -69,22 +65,18 @@ same-length c = search needs
 
 returns : tie.Need-returns
 returns c =
-    let counted = c .before .before .before .before .before .before in
-    let seen = counted .before .before .before .before in
+    let differ = c .before .before .before .before in
+    let counted = differ .before .before in
+    let seen = counted .before .before .before .before .before .before in
     let kept = seen .before .before .before .before in
-    let differing = kept .before .before .before in
-    let cutSeen = differing .before .before .before .before in
+    let cutSeen = kept .before .before .before .before in
     let evicted = cutSeen .before .before in
     let cut = evicted .before .before in
     let start = cut .before .before .before in
     let args = start .args in
-    let text =
-    cut-found (args .machine) (evicted .evict-all .result) (args .number) (start .pre) (cut .cut .ensures)
-    (evicted .evict-all .ensures) (cutSeen .cut2 .ensures)
-    (differing .differing-lines .ensures .0) (kept .recover .ensures) (seen .recover2 .ensures) (counted .count-alike .ensures) (c .before .before .before .before .not-zero .ensures) in (
-      c .before .before .write-cut-line .ensures .0 ∙ ap (placeAfter (args .output .now) (args .place)) text,
-      c .before .before .write-cut-line .ensures .1 ∙ ap (written (args .output .now) (args .place)) text,
-    )
+    cut-found (args .machine) (evicted .evict-all .result) (args .number) (args .place) (args .output .now) (start .pre)
+    (cut .cut .ensures) (evicted .evict-all .ensures) (cutSeen .cut2 .ensures) (kept .recover .ensures) (seen .recover2 .ensures)
+    (counted .alike-choices .ensures) (differ .not-zero .ensures) (c .before .before .write-cut-line .ensures)
 
 pub write-cut-spec : {M : Type 1} → statement M
 write-cut-spec =
@@ -95,16 +87,15 @@ write-cut-spec =
     evict-all-requires
     slice-aggregate-cut-2
     cut-requires-2
-    slice-aggregate-differing-lines
-    slice-aggregate-differing-lines-2
-    differing-lines-requires
     slice-aggregate-recover
     slice-aggregate-recover-2
     recover-requires
     slice-aggregate-recover-3
     slice-aggregate-recover-4
     recover-requires-2
-    count-alike-requires
+    slice-aggregate-alike-choices
+    slice-aggregate-alike-choices-2
+    alike-choices-requires
     slice-aggregate-not-zero
     not-zero-requires
     write-cut-line-requires

@@ -1,26 +1,13 @@
 -- `every_cut::main` is safe and ends: what the cuts take fits the buffer.
-use Prim.Native.Nat.{ℕ, _≤_, _<_}
+use Prim.Native.Nat.{_≤_}
 use mathlib.Core.Path.{ap}
-use mathlib.Core.List.{List}
-use mathlib.Core.Logic.{by-cases}
-use native.Mathlib.Decide.{decLe}
 use native.Mathlib.Omega.{arith}
-use lib.ListN.{length, length-take}
-use borrow.Author.Tests.{le-leb, lt-leb}
+use lib.ListN.{length-take}
 use Rattle.listing.specs.Transcript.{Transcript}
-use Rattle.cuts.specs.Cuts.{cutsIn}
-use Rattle.cuts.proofs.CutsLaws.{all-fit}
+use Rattle.cuts.proofs.CutsLaws.{cuts-count}
 use borrow.Author.Needs.{needs}
 use Rattle.every_cut.proofs.main.Statement.{statement}
 use Rattle.every_cut.proofs.main.Tie as tie
-
--- the cuts take no more than the room for them
-count-fits : (input buffer : List ℕ) → cutsIn input buffer .count ≤ 163840
-unfolding cutsIn
-count-fits input buffer =
-    by-cases (decLe 163840 (length buffer))
-    (λ room. rw (le-leb 163840 (length buffer) room) (all-fit input))
-    (λ noRoom. let short : length buffer < 163840 = omega arith in rw (lt-leb 163840 (length buffer) short) (omega arith))
 
 slice-aggregate-read-full : tie.Need-slice-aggregate-read-full
 slice-aggregate-read-full c = search needs
@@ -41,7 +28,7 @@ all-cuts-requires : tie.Need-all-cuts-requires
 all-cuts-requires c κs = search needs
 
 takes-few : (c : tie.After-all-cuts) → c .all-cuts .result ≤ 163840
-takes-few c = rw (ap (λ (found : Transcript). found .count) (c .all-cuts .ensures)) (count-fits _ _)
+takes-few c = rw (ap (λ (found : Transcript). found .count) (c .all-cuts .ensures)) (cuts-count _ _)
 
 array-share-prefix-output : tie.Need-array-share-prefix-output
 array-share-prefix-output c = let few = takes-few (c .before) in omega arith

@@ -6,12 +6,12 @@ use lib.ListN.{getD}
 use borrow.Author.Needs.{needs}
 use Rattle.sizes.specs.Sizes.{threadCount}
 use Rattle.answer.specs.Lists.{someBelow}
+use Rattle.answer.proofs.Searches.{Searched, search-starts, search-on, search-finds, search-ends}
 use Rattle.ring.specs.declared.Lsn.{Lsn}
 use Rattle.image.specs.Stored.{StoredLog}
 use Rattle.image.specs.Tests.{hasBadEntry}
 use Rattle.image.specs.Reading.{logIn, entryIn, isBad}
 use Rattle.image.proofs.LogsRead.{count-present, log-read}
-use Rattle.image.proofs.Searches.{Searched, search-starts, search-on, search-finds, search-ends}
 use Rattle.image.proofs.has_bad_entries.Statement.{statement}
 use Rattle.image.proofs.has_bad_entries.Tie as tie
 

@@ -2,8 +2,8 @@
 use Prim.Native.Nat.{_-_}
 use mathlib.Core.Path.{_≡_, sym, _∙_}
 use borrow.Author.Needs.{needs}
+use Rattle.answer.proofs.Searches.{Searched, search-starts, search-on, search-finds, search-ends}
 use Rattle.image.specs.Reading.{logOf, entryIn, isBad}
-use Rattle.image.proofs.Searches.{Searched, search-starts, search-on, search-finds, search-ends}
 use Rattle.image.proofs.has_bad_entry.Statement.{statement}
 use Rattle.image.proofs.has_bad_entry.Tie as tie
 

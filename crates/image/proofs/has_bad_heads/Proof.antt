@@ -3,9 +3,9 @@ use Prim.Native.Nat.{_-_}
 use mathlib.Core.Path.{_≡_, sym, _∙_}
 use borrow.Author.Needs.{needs}
 use Rattle.sizes.specs.Sizes.{threadCount}
+use Rattle.answer.proofs.Searches.{Searched, search-starts, search-on, search-finds, search-ends}
 use Rattle.image.specs.Tests.{isBadHead}
 use Rattle.image.specs.Reading.{logIn}
-use Rattle.image.proofs.Searches.{Searched, search-starts, search-on, search-finds, search-ends}
 use Rattle.image.proofs.has_bad_heads.Statement.{statement}
 use Rattle.image.proofs.has_bad_heads.Tie as tie
 

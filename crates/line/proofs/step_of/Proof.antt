@@ -11,7 +11,7 @@ use Rattle.line.proofs.Field as declared
 use Rattle.line.proofs.step_of.Statement.{statement}
 use Rattle.line.proofs.step_of.Tie as tie
 
--- the tag of a field that is no number is the other one
+-- a field whose tag is not that of a number says nothing
 nothing : (field : Field) → OneOf (1 ∷ []) (tagOf declared.the-type field) → field ≡ Nothing
 nothing (Number number) key = absurd (miss (1 ∷ []) 0 tt key)
 nothing Nothing key = refl

@@ -8,7 +8,7 @@ use borrow.Author.Needs.{needs}
 use lib.ListN.{length}
 use Rattle.machine.specs.declared.Stepped.{Stepped}
 use Rattle.line.specs.Lines.{linesOf}
-use Rattle.print.proofs.BufferLaws.{wrote-nothing}
+use Rattle.buffer.proofs.BufferLaws.{wrote-nothing}
 use Rattle.listing.specs.Transcript.{mostInput, startMachine, printed, transcriptOf, transcriptIn}
 use Rattle.listing.proofs.Printing.{Printing, print-refused, print-long, printing-start, printing-long}
 use Rattle.listing.proofs.Printing.{printing-unreadable, line-within, printing-step}

@@ -4,7 +4,7 @@ use mathlib.Core.List.{List}
 use mathlib.Core.Path.{_≡_, _∙_, ap, subst⁻¹}
 use borrow.Author.Needs.{needs}
 use lib.ListN.{length}
-use Rattle.print.specs.Buffers.{written}
+use Rattle.buffer.specs.Buffers.{written}
 use Rattle.print.specs.Printed.{cellsText}
 use Rattle.listing.specs.Transcript.{recoveredCells}
 use Rattle.listing.proofs.RecoveredLaws.{recovered-are}

@@ -1,7 +1,7 @@
 -- `locks::acquire` meets its contract: the lock and the clock change where the log gets the entry.
 use Rattle.answer.specs.declared.Answer.the-variants.{Accepted}
 use Rattle.undo.specs.declared.Event.the-variants.{Acquire}
-use Rattle.accesses.specs.Clocks.{joinOf}
+use Rattle.clocks.specs.Clocks.{joinOf}
 use Rattle.accesses.proofs.EntryLaws.{entry-refused, entry-made}
 use Rattle.locks.specs.Locks.{takenBy}
 use Rattle.locks.specs.LockSteps.{acquireTestsOn, acquireOn}

@@ -4,7 +4,7 @@ use mathlib.Core.Path.{_≡_, sym, _∙_}
 use mathlib.Core.Bool.{true}
 use borrow.Author.Tests.{not-true, not-false}
 use Rattle.answer.specs.Refusals.{unless, firstRefusal}
-use Rattle.ring.specs.Ring.{isReleasingLock}
+use Rattle.tail.specs.Tail.{isReleasingLock}
 use Rattle.undo.specs.Regions.{isUndurableUpTo}
 use Rattle.locks.specs.LockSteps.{releaseTests}
 use borrow.Author.Needs.{needs}

@@ -1,28 +1,16 @@
 -- `mark::main` is safe and ends: what the transcript takes fits the buffer.
-use Prim.Native.Nat.{ℕ, _≤_, _<_}
+use Prim.Native.Nat.{_≤_}
 use mathlib.Core.Path.{ap}
-use mathlib.Core.List.{List}
-use mathlib.Core.Logic.{by-cases}
-use native.Mathlib.Decide.{decLe}
 use native.Mathlib.Omega.{arith}
-use lib.ListN.{length, length-take}
-use borrow.Author.Tests.{le-leb, lt-leb}
-use Rattle.listing.specs.Transcript.{Transcript, transcriptIn}
-use Rattle.listing.proofs.TranscriptLaws.{transcript-fits}
+use lib.ListN.{length-take}
+use Rattle.listing.specs.Transcript.{Transcript}
+use Rattle.listing.proofs.TranscriptLaws.{transcript-count}
 use borrow.Author.Needs.{needs}
 use Rattle.mark.proofs.main.Statement.{statement}
 use Rattle.mark.proofs.main.Tie as tie
 use Rattle.io.proofs.read_full.Reads as read-full-reads
 use Rattle.io.proofs.write_all.Reads as write-all-reads
 use Rattle.listing.proofs.transcript.Reads as transcript-reads
-
--- a transcript takes no more than the room for one
-count-fits : (input buffer : List ℕ) → transcriptIn input buffer .count ≤ 163840
-unfolding transcriptIn
-count-fits input buffer =
-    by-cases (decLe 163840 (length buffer))
-    (λ room. rw (le-leb 163840 (length buffer) room) (transcript-fits input))
-    (λ noRoom. let short : length buffer < 163840 = omega arith in rw (lt-leb 163840 (length buffer) short) (omega arith))
 
 slice-aggregate-read-full : tie.Need-slice-aggregate-read-full
 slice-aggregate-read-full c = search needs
@@ -43,7 +31,7 @@ transcript-requires : tie.Need-transcript-requires
 transcript-requires c κs = search needs
 
 takes-few : (c : tie.After-transcript) → c .transcript .result ≤ 163840
-takes-few c = rw (ap (λ (found : Transcript). found .count) (c .transcript .ensures)) (count-fits _ _)
+takes-few c = rw (ap (λ (found : Transcript). found .count) (c .transcript .ensures)) (transcript-count _ _)
 
 array-share-prefix-output : tie.Need-array-share-prefix-output
 array-share-prefix-output c = let few = takes-few (c .before) in omega arith

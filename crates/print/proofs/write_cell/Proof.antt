@@ -5,10 +5,10 @@ use borrow.Author.Needs.{needs}
 use lib.ListN.{replicate}
 use lib.Seq.{length-take-le}
 use Rattle.line.specs.Text.{ascii, decimalText}
-use Rattle.print.specs.Buffers.{written, placeAfter}
+use Rattle.buffer.specs.Buffers.{written, placeAfter}
 use Rattle.print.specs.Printed.{cellText}
-use Rattle.print.proofs.BufferLaws.{Wrote, wrote-long, wrote-front, upto-nothing, upto-more}
-use Rattle.print.proofs.DecimalLaws.{decimal-most}
+use Rattle.buffer.proofs.BufferLaws.{Wrote, wrote-long, wrote-front, upto-nothing, upto-more}
+use Rattle.buffer.proofs.DecimalLaws.{decimal-most}
 use Rattle.print.proofs.PrintLaws.{cell-line}
 use Rattle.print.proofs.write_cell.Statement.{statement}
 use Rattle.print.proofs.write_cell.Tie as tie
@@ -52,7 +52,7 @@ slice-aggregate-write-6 c = search needs
 write-requires-3 : tie.Need-write-requires-3
 write-requires-3 c κs = search needs
 
--- the line
+-- the pieces make the cell's line
 line-made : (c : tie.After-write3) →
     Wrote (replicate 53 0) (c .write3 .last .0) (c .write3 .result)
     (cellText (c .before .before .before .before .before .before .before .before .before .before .before .before .before

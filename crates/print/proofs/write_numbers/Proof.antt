@@ -5,10 +5,10 @@ use borrow.Author.Needs.{needs}
 use lib.ListN.{replicate}
 use lib.Seq.{length-take-le}
 use Rattle.line.specs.Text.{ascii, decimalText}
-use Rattle.print.specs.Buffers.{written, placeAfter}
+use Rattle.buffer.specs.Buffers.{written, placeAfter}
 use Rattle.print.specs.Printed.{numbersText}
-use Rattle.print.proofs.BufferLaws.{Wrote, wrote-long, wrote-front, upto-nothing, upto-more}
-use Rattle.print.proofs.DecimalLaws.{decimal-most}
+use Rattle.buffer.proofs.BufferLaws.{Wrote, wrote-long, wrote-front, upto-nothing, upto-more}
+use Rattle.buffer.proofs.DecimalLaws.{decimal-most}
 use Rattle.print.proofs.write_numbers.Statement.{statement}
 use Rattle.print.proofs.write_numbers.Tie as tie
 
@@ -60,7 +60,7 @@ slice-aggregate-write-6 c = search needs
 write-requires-4 : tie.Need-write-requires-4
 write-requires-4 c κs = search needs
 
--- the line
+-- the pieces make the numbered line of the numbers and labels that the call was given
 abbrev start-of : tie.After-write4 → tie.Start
 start-of c =
     c .before .before .before .before .before .before .before .before .before .before .before .before .before .before

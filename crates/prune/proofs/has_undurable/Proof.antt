@@ -22,7 +22,7 @@ Inv-loop log cache count unasked₀ unasked = someBelow unasked (test cache log)
 abbrev μ-loop : tie.MeasureT-loop
 μ-loop log cache count unasked₀ unasked = unasked
 
--- the last number below the bound, and those below it
+-- a test holds of a number below the bound where it holds of the last one or of one below that
 turn : (test : ℕ → Bool) (left : ℕ) → 0 < left → someBelow left test ≡ (test (left - 1) || someBelow (left - 1) test)
 unfolding someBelow
 turn test zero some = absurd (omega arith)
@@ -40,7 +40,7 @@ live-event-requires c κs = search needs
 logs-undurable-requires : tie.Need-logs-undurable-requires Inv-loop μ-loop
 logs-undurable-requires c κs = search needs
 
--- what the test of the entry found, or one of those left
+-- one of the first so many entries logs an undurable cell where the one just tested does, or one of those left
 rest : (c : tie.After-logs-undurable Inv-loop μ-loop)
     → let a = c .before .before .before .before .args in
     (c .logs-undurable .result || someBelow (c .before .before .before .loop .unasked - 1) (test (a .cache) (a .log)))

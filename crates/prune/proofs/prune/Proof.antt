@@ -13,13 +13,13 @@ use Rattle.log.specs.declared.Log.{Log}
 use Rattle.undo.specs.Events.{liveEvent}
 use Rattle.undo.specs.Regions.{oldestRegion, isFinished}
 use Rattle.undo.specs.declared.Region.{Region}
-use Rattle.prune.proofs.OldestLaws.{region-live, finished-some, prune-region}
+use Rattle.region.proofs.OldestLaws.{region-live, finished-some, prune-region}
 use Rattle.locks.specs.Locks.{countedLocks}
 use Rattle.prune.specs.Pruning.{pruneTests, pruneOn}
 use Rattle.locks.specs.declared.Lock.{Lock}
 use Rattle.prune.specs.declared.Pruned.{Pruned}
 use Rattle.locks.proofs.AskedLaws.{asked-refused, asked-accepted}
-use Rattle.prune.proofs.OldestLaws.{prune-refuses}
+use Rattle.prune.proofs.PruneLaws.{prune-refuses}
 use borrow.Author.Needs.{needs}
 use Rattle.prune.proofs.prune.Statement.{statement}
 use Rattle.prune.proofs.prune.Tie as tie

@@ -9,7 +9,7 @@ use Rattle.answer.specs.Refusals.{unless, firstRefusal}
 use Rattle.undo.specs.Events.{liveEvent}
 use Rattle.undo.specs.Regions.{isUndurableUpTo, oldestRegion, isFinished}
 use Rattle.undo.specs.declared.Region.{Region}
-use Rattle.prune.proofs.OldestLaws.{region-live}
+use Rattle.region.proofs.OldestLaws.{region-live}
 use Rattle.prune.specs.Pruning.{awaitsRelease, logsUndurable, pruneTests}
 use borrow.Author.Needs.{needs}
 use Rattle.prune.proofs.prune_answer.Statement.{statement}

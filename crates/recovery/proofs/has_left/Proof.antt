@@ -4,7 +4,7 @@ use lib.Dec.{ltb}
 use borrow.Author.Tests.{lt-ltb, le-ltb}
 use borrow.Author.Needs.{needs}
 use Rattle.sizes.specs.Sizes.{threadCount}
-use Rattle.image.proofs.Searches.{Searched, search-starts, search-on, search-finds, search-ends}
+use Rattle.answer.proofs.Searches.{Searched, search-starts, search-on, search-finds, search-ends}
 use Rattle.recovery.specs.Undo.{leftOf}
 use Rattle.recovery.proofs.has_left.Statement.{statement}
 use Rattle.recovery.proofs.has_left.Tie as tie

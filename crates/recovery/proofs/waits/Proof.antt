@@ -5,8 +5,8 @@ use lib.Dec.{ltb}
 use borrow.Author.Tests.{lt-ltb, le-ltb}
 use borrow.Author.Needs.{needs}
 use Rattle.sizes.specs.Sizes.{threadCount}
+use Rattle.answer.proofs.Searches.{Searched, search-starts, search-on, search-finds, search-ends}
 use Rattle.undo.specs.declared.SyncCount.{SyncCount}
-use Rattle.image.proofs.Searches.{Searched, search-starts, search-on, search-finds, search-ends}
 use Rattle.recovery.specs.Latest.{countOf}
 use Rattle.recovery.proofs.waits.Statement.{statement}
 use Rattle.recovery.proofs.waits.Tie as tie

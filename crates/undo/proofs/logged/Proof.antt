@@ -67,7 +67,7 @@ whole c =
     logged-seen (self-at c) (cell-at c) (liveCount (self-at c))
     ∙ ap (loggedAmong (seen-at c) (cell-at c)) (sym (c .before .live-count .ensures))
 
--- a turn of it, by what the entry says
+-- a turn of the search, by what the entry says
 module _ (c : tie.After-event-of Inv-loop μ-loop) where
   abbrev at : tie.At-loop Inv-loop μ-loop
   at = c .before .before .before .before

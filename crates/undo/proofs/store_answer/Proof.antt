@@ -7,7 +7,7 @@ use borrow.Author.Needs.{needs}
 use Rattle.undo.proofs.store_answer.Statement.{statement}
 use Rattle.undo.proofs.store_answer.Tie as tie
 use Rattle.undo.proofs.logged.Reads as logged-reads
-use Rattle.ring.proofs.Tail.is_releasing.Reads as is-releasing-reads
+use Rattle.tail.proofs.Tail.is_releasing.Reads as is-releasing-reads
 use Rattle.undo.proofs.is_found.Reads as is-found-reads
 use Rattle.undo.proofs.is_undurable.Reads as is-undurable-reads
 

@@ -1,6 +1,6 @@
 -- `accesses::Accesses::loaded` meets its contract.
 use mathlib.Core.Path.{refl, sym}
-use Rattle.accesses.specs.Clocks.{loadedOf}
+use Rattle.accesses.specs.Accesses.{loadedOf}
 use Rattle.accesses.proofs.AccessLaws.{Sized, loadedOf-out}
 use borrow.Author.Needs.{needs}
 use Rattle.accesses.proofs.Accesses.loaded.Statement.{statement}

@@ -1,7 +1,7 @@
 -- `accesses::Accesses::log_races` meets its contract.
 use mathlib.Core.Path.{sym}
 use native.Mathlib.Omega.{arith}
-use Rattle.accesses.specs.Clocks.{clockAt}
+use Rattle.clocks.specs.Clocks.{clockAt}
 use Rattle.accesses.proofs.AccessLaws.{Sized, log-out, one-unknown, first-decides}
 use borrow.Author.Needs.{needs}
 use Rattle.accesses.proofs.Accesses.log_races.Statement.{statement}

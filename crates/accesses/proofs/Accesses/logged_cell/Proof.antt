@@ -1,6 +1,6 @@
 -- `accesses::Accesses::logged_cell` meets its contract.
 use mathlib.Core.Path.{sym, _∙_}
-use Rattle.accesses.specs.Clocks.{loadedOf, loggedCellOf}
+use Rattle.accesses.specs.Accesses.{loadedOf, loggedCellOf}
 use Rattle.accesses.proofs.AccessLaws.{Sized, loggedCellOf-out}
 use borrow.Author.Needs.{needs}
 use Rattle.accesses.proofs.Accesses.logged_cell.Statement.{statement}

@@ -1,6 +1,6 @@
 -- `log::Log::new` meets its contract: field by field.
 use borrow.Author.Needs.{needs}
-use Rattle.ring.specs.Ring.{freshTail}
+use Rattle.tail.specs.Tail.{freshTail}
 use Rattle.log.specs.Entries.{freshLog}
 use Rattle.log.proofs.Log.new.Statement.{statement}
 use Rattle.log.proofs.Log.new.Tie as tie

@@ -32,7 +32,7 @@ returns c =
     )
     (evict-step (a .self) 0 (a .line) (accepted (c .before .before)))
 
--- or refused
+-- an EVICT whose input is refused answers that refusal and leaves the machine as it was
 returns-2 : tie.Need-returns-2
 returns-2 c =
     let a = c .before .before .before .args in

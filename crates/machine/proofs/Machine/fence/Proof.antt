@@ -55,7 +55,7 @@ returns c =
     )
     (fence-step (a .t1) (a .thread) 0 (accepted (c .before .before .before .before)))
 
--- or refused
+-- a FENCE whose input is refused answers that refusal and leaves the machine as it was
 returns-2 : tie.Need-returns-2
 returns-2 c =
     let a = c .before .before .before .args in

@@ -50,7 +50,7 @@ returns c =
     )
     (flush-log-step (a .t1) (a .thread) 0 (accepted (c .before .before)))
 
--- or refused
+-- a FLUSHLOG whose input is refused answers that refusal and leaves the machine as it was
 returns-2 : tie.Need-returns-2
 returns-2 c =
     let a = c .before .before .before .args in

@@ -1,7 +1,7 @@
 -- `machine::Machine::fresh` meets its contract: the cache and the logs are as their own crates make them, and a thread's clock knows its
 -- own start.
 use borrow.Author.Needs.{needs}
-use Rattle.accesses.specs.Clocks.{raiseOf}
+use Rattle.clocks.specs.Clocks.{raiseOf}
 use Rattle.machine.specs.Holds.{freshMachine}
 use Rattle.machine.proofs.Machine.fresh.Statement.{statement}
 use Rattle.machine.proofs.Machine.fresh.Tie as tie

@@ -72,7 +72,7 @@ returns-2 c =
     (accepted (c .before .before .before .before .before .before .before)) .1
     (λ zero. c .if2 .left (c .before .number2 .ensures ∙ (ap numberOf answer ∙ zero))))
 
--- or refused
+-- a LOAD whose input is refused answers that refusal and leaves the machine as it was
 returns-3 : tie.Need-returns-3
 returns-3 c =
     let a = c .before .before .before .args in

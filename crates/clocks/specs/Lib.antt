@@ -1,0 +1,2 @@
+-- Clocks, which decide what happens before.
+pub mod Clocks

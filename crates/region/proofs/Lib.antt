@@ -1,0 +1,2 @@
+-- Laws of the oldest region.
+pub mod OldestLaws

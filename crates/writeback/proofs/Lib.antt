@@ -1,0 +1,2 @@
+-- A fence's walk over the lines.
+pub mod Fences

@@ -1,0 +1,70 @@
+// Lines on their way from the cache to persistent memory: by a fence that completes flushes, and by an eviction.
+ghost use mathlib.Core.Path.{_≡_};
+ghost use mathlib.Core.Bool.{true};
+ghost use Prim.Native.Nat.{_<_};
+ghost use lib.ListN.{length};
+ghost use lib.Dec.{eqb};
+ghost use Rattle.answer.specs.Lists.{setFrom, mixFrom};
+ghost use Rattle.cache.specs.Cache.{cellCount, lineCount, lineOf, fenceOf, evictOf};
+use cache::Cache;
+use sizes::CELLS;
+use sizes::LINE_CELLS;
+use sizes::LINES;
+use sizes::THREADS;
+
+// Copies the eight cells of a line.
+fn copy_line(from: &[u64; CELLS], to: &mut [u64; CELLS], line: usize)
+    requires { ⌜ (line < lineCount) × (length (now from) ≡ cellCount) × (length (now to) ≡ cellCount) ⌝ }
+    ensures { λ r. ⌜ now (to .exit) ≡ mixFrom (λ cell. eqb (lineOf cell) line) 0 (now (from .entry)) (now (to .entry)) ⌝ }
+{
+    let end = line * LINE_CELLS + LINE_CELLS;
+    let mut cell = line * LINE_CELLS;
+    while cell < end {
+        to[cell] = from[cell];
+        cell += 1;
+    }
+}
+
+// Sets the eight cells of a line.
+fn set_line(flags: &mut [bool; CELLS], line: usize)
+    requires { ⌜ (line < lineCount) × (length (now flags) ≡ cellCount) ⌝ }
+    ensures { λ r. ⌜ now (flags .exit) ≡ setFrom (λ cell. eqb (lineOf cell) line) true 0 (now (flags .entry)) ⌝ }
+{
+    let end = line * LINE_CELLS + LINE_CELLS;
+    let mut cell = line * LINE_CELLS;
+    while cell < end {
+        flags[cell] = true;
+        cell += 1;
+    }
+}
+
+// Completes the thread's pending flushes: the cells of each such line are persisted and durable.
+pub fn fence(mut cache: Cache, thread: usize) -> Cache
+    ensures { λ r. ⌜ r ≡ fenceOf cache thread ⌝ }
+{
+    if thread < THREADS {
+        let cached = cache.cached;
+        let mut line = 0;
+        while line < LINES {
+            let place = thread * LINES + line;
+            if cache.pending[place] {
+                copy_line(&cached, &mut cache.persisted, line);
+                set_line(&mut cache.durable, line);
+                cache.pending[place] = false;
+            }
+            line += 1;
+        }
+    }
+    cache
+}
+
+// The line's cached content is persisted. No cell becomes durable by it.
+pub fn evict(mut cache: Cache, line: usize) -> Cache
+    ensures { λ r. ⌜ r ≡ evictOf cache line ⌝ }
+{
+    if line < LINES {
+        let cells = cache.cached;
+        copy_line(&cells, &mut cache.persisted, line);
+    }
+    cache
+}
