@@ -1,6 +1,5 @@
-// The engine for programs in C or Rust: a static library (`rt staticlib exports`) whose functions have plain names. A slice is passed as
-// a pointer
-// to its first element and its length. docs/linking has a program in each language.
+// The engine for programs in C or Rust: a static library (`rt staticlib exports`) whose functions have plain names. A slice is passed as a
+// pointer to its first element and its length. docs/linking has a program in each language.
 ghost use mathlib.Core.Path.{_≡_};
 ghost use Rattle.answer.specs.Answer.{numberOf};
 ghost use Rattle.recovery.specs.Recover.{recoverOf};

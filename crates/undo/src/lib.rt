@@ -117,8 +117,7 @@ pub fn event_of(entry: Entry) -> Event
 }
 
 // Appends the entry where a step's own tests allow it: their refusal, or else what the append answers (its LSN, or 6, then 5), beside the
-// log
-// after it.
+// log after it.
 pub fn enter(log: Log, asked: Answer, event: Event) -> Changed
     ensures { λ r. ⌜ r ≡ enteredOf log asked event ⌝ }
 {

@@ -10,19 +10,15 @@ use Rattle.exports.proofs.region_machine_recover.Lts as lts
 use Rattle.answer.proofs.number.Reads as number-reads
 use Rattle.recovery.proofs.recover.Reads as recover-reads
 
--- src/lib.rt:23:9
 recover-requires : tie.Need-recover-requires
 recover-requires c κs = search needs
 
--- src/lib.rt:24:5
 number-requires : tie.Need-number-requires
 number-requires c κs = search needs
 
--- src/lib.rt:18:1
 same-length : tie.Need-same-length
 same-length c = search needs
 
--- src/lib.rt:18:1
 returns : tie.Need-returns
 returns c = (
   c .number .ensures ∙ ap (λ (outcome : Outcome). numberOf (outcome .answer)) (c .before .before .before .recover .ensures),

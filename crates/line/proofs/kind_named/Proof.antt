@@ -8,103 +8,78 @@ use Rattle.line.proofs.LineLaws.{kind-from}
 use Rattle.line.proofs.kind_named.Statement.{statement}
 use Rattle.line.proofs.kind_named.Tie as tie
 
--- src/lib.rt:66:29
 slice-aggregate-named : tie.Need-slice-aggregate-named
 slice-aggregate-named c = search needs
 
--- src/lib.rt:66:9
 named-requires : tie.Need-named-requires
 named-requires c κs = search needs
 
--- src/lib.rt:67:29
 slice-aggregate-named-2 : tie.Need-slice-aggregate-named-2
 slice-aggregate-named-2 c = search needs
 
--- src/lib.rt:67:9
 named-requires-2 : tie.Need-named-requires-2
 named-requires-2 c κs = search needs
 
--- src/lib.rt:68:29
 slice-aggregate-named-3 : tie.Need-slice-aggregate-named-3
 slice-aggregate-named-3 c = search needs
 
--- src/lib.rt:68:9
 named-requires-3 : tie.Need-named-requires-3
 named-requires-3 c κs = search needs
 
--- src/lib.rt:69:29
 slice-aggregate-named-4 : tie.Need-slice-aggregate-named-4
 slice-aggregate-named-4 c = search needs
 
--- src/lib.rt:69:9
 named-requires-4 : tie.Need-named-requires-4
 named-requires-4 c κs = search needs
 
--- src/lib.rt:70:29
 slice-aggregate-named-5 : tie.Need-slice-aggregate-named-5
 slice-aggregate-named-5 c = search needs
 
--- src/lib.rt:70:9
 named-requires-5 : tie.Need-named-requires-5
 named-requires-5 c κs = search needs
 
--- src/lib.rt:71:29
 slice-aggregate-named-6 : tie.Need-slice-aggregate-named-6
 slice-aggregate-named-6 c = search needs
 
--- src/lib.rt:71:9
 named-requires-6 : tie.Need-named-requires-6
 named-requires-6 c κs = search needs
 
--- src/lib.rt:72:29
 slice-aggregate-named-7 : tie.Need-slice-aggregate-named-7
 slice-aggregate-named-7 c = search needs
 
--- src/lib.rt:72:9
 named-requires-7 : tie.Need-named-requires-7
 named-requires-7 c κs = search needs
 
--- src/lib.rt:73:29
 slice-aggregate-named-8 : tie.Need-slice-aggregate-named-8
 slice-aggregate-named-8 c = search needs
 
--- src/lib.rt:73:9
 named-requires-8 : tie.Need-named-requires-8
 named-requires-8 c κs = search needs
 
--- src/lib.rt:74:29
 slice-aggregate-named-9 : tie.Need-slice-aggregate-named-9
 slice-aggregate-named-9 c = search needs
 
--- src/lib.rt:74:9
 named-requires-9 : tie.Need-named-requires-9
 named-requires-9 c κs = search needs
 
--- src/lib.rt:75:29
 slice-aggregate-named-10 : tie.Need-slice-aggregate-named-10
 slice-aggregate-named-10 c = search needs
 
--- src/lib.rt:75:9
 named-requires-10 : tie.Need-named-requires-10
 named-requires-10 c κs = search needs
 
--- src/lib.rt:76:29
 slice-aggregate-named-11 : tie.Need-slice-aggregate-named-11
 slice-aggregate-named-11 c = search needs
 
--- src/lib.rt:76:9
 named-requires-11 : tie.Need-named-requires-11
 named-requires-11 c κs = search needs
 
--- src/lib.rt:77:17
 slice-aggregate-named-12 : tie.Need-slice-aggregate-named-12
 slice-aggregate-named-12 c = search needs
 
--- src/lib.rt:77:5
 named-requires-12 : tie.Need-named-requires-12
 named-requires-12 c κs = search needs
 
--- src/lib.rt:63:1
 returns : tie.Need-returns
 unfolding kindNamed kindFrom names ascii
 returns c =

@@ -4,15 +4,12 @@ use borrow.Author.Needs.{needs}
 use Rattle.line.proofs.named.Statement.{statement}
 use Rattle.line.proofs.named.Tie as tie
 
--- src/lib.rt:56:8
 same-requires : tie.Need-same-requires
 same-requires c κs = search needs
 
--- src/lib.rt:57:9
 returns : tie.Need-returns
 returns c = rw (sym (c .before .same .ensures) ∙ c .if1 .taken)
 
--- src/lib.rt:53:1
 returns-2 : tie.Need-returns-2
 returns-2 c = rw (sym (c .before .same .ensures) ∙ c .if1 .left)
 

@@ -17,21 +17,17 @@ Inv-loop text number₀ i₀ number i = (i ≤ length text) × (number < 2 ^ 64)
 abbrev μ-loop : tie.MeasureT-loop
 μ-loop text number₀ i₀ number i = length text - i
 
--- src/lib.rt:85:9
 returns : tie.Need-returns Inv-loop μ-loop
 returns c =
     sym (no-digits (c .before .args .text .now) (c .if1 .taken))
 
--- src/lib.rt:88:12
 shared-slice-read-if3 : tie.Need-shared-slice-read-if3 Inv-loop μ-loop
 shared-slice-read-if3 c = search needs
 
--- src/lib.rt:89:13
 returns-2 : tie.Need-returns-2 Inv-loop μ-loop
 returns-2 c =
     sym (leading-zero (c .before .before .before .before .args .text .now) (search needs) (c .if3 .taken))
 
--- src/lib.rt:94:5
 loop-holds : tie.Need-loop-holds Inv-loop μ-loop
 loop-holds c =
     let text = c .before .before .args .text .now in (
@@ -41,56 +37,45 @@ loop-holds c =
           (⊎-elim (λ w longer. w .2 .left) (λ w longer. absurd (omega arith)) (c .if2 .came)),
     )
 
--- src/lib.rt:95:20
 shared-slice-read-byte : tie.Need-shared-slice-read-byte Inv-loop μ-loop
 shared-slice-read-byte c = search needs
 
--- src/lib.rt:97:13
 returns-3 : tie.Need-returns-3 Inv-loop μ-loop
 returns-3 c =
     let at = c .before .before .before .loop in
     let text = c .before .before .before .before .before .before .args .text .now in
     sym (at .inv .2 ∙ digits-low (at .number) text (at .i) (search needs) (c .if4 .taken))
 
--- src/lib.rt:100:13
 returns-4 : tie.Need-returns-4 Inv-loop μ-loop
 returns-4 c =
     let at = c .before .before .before .before .loop in
     let text = c .before .before .before .before .before .before .before .args .text .now in
     sym (at .inv .2 ∙ digits-high (at .number) text (at .i) (search needs) (search needs) (c .if5 .taken))
 
--- src/lib.rt:102:21
 cast-digit : tie.Need-cast-digit Inv-loop μ-loop
 cast-digit c = search needs
 
--- src/lib.rt:104:13
 sub-if6 : tie.Need-sub-if6 Inv-loop μ-loop
 sub-if6 c = search needs
 
--- src/lib.rt:105:13
 returns-5 : tie.Need-returns-5 Inv-loop μ-loop
 returns-5 c =
     let at = c .before .before .before .before .before .loop in
     let text = c .before .before .before .before .before .before .before .before .args .text .now in
     sym (at .inv .2 ∙ digits-past (at .number) text (at .i) (search needs) (search needs) (search needs) (search needs))
 
--- src/lib.rt:107:18
 mul-number : tie.Need-mul-number Inv-loop μ-loop
 mul-number c = search needs
 
--- src/lib.rt:107:18
 add-number : tie.Need-add-number Inv-loop μ-loop
 add-number c = search needs
 
--- src/lib.rt:108:9
 add-i : tie.Need-add-i Inv-loop μ-loop
 add-i c = search needs
 
--- src/lib.rt:94:5
 loop-less : tie.Need-loop-less Inv-loop μ-loop
 loop-less c = search needs
 
--- src/lib.rt:94:5
 loop-again : tie.Need-loop-again Inv-loop μ-loop
 loop-again c =
     let at = c .before .before .before .before .before .loop in
@@ -100,7 +85,6 @@ loop-again c =
       at .inv .2 ∙ digits-on (at .number) text (at .i) (search needs) (search needs) (search needs) (search needs),
     )
 
--- src/lib.rt:81:1
 returns-6 : tie.Need-returns-6 Inv-loop μ-loop
 returns-6 c =
     let at = c .before .loop in

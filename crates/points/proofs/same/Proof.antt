@@ -1,6 +1,5 @@
 -- `points::same` meets its contract.
 use Prim.Native.Nat.{_-_, _≤_}
-use mathlib.Core.Path.{_≡_}
 use lib.ListN.{length}
 use borrow.Author.Needs.{needs}
 use Rattle.points.proofs.same.Statement.{statement}
