@@ -2,20 +2,22 @@
 // Past the end of an array a read gives 0 and a store changes nothing.
 ghost use mathlib.Core.Path.{_≡_};
 ghost use mathlib.Core.Bool.{not};
+ghost use mathlib.Core.List.{[], _∷_};
 ghost use lib.ListN.{getD};
 ghost use Rattle.clocks.specs.Clocks.{isKnown};
 ghost use Rattle.accesses.specs.Accesses.{hasUnknown, loadedOf, loggedCellOf};
 ghost use Rattle.accesses.specs.Loads.{loadOn};
-ghost use Rattle.accesses.specs.Logs.{logTestsOn, logOn};
-ghost use Rattle.answer.specs.Refusals.{firstRefusal};
+ghost use Rattle.accesses.specs.Logs.{firstLogOn, logOn};
+ghost use Rattle.answer.specs.Refusals.{_⇒_, firstRefusal};
+ghost use Rattle.answer.specs.declared.Answer.the-variants.{Race};
 use answer::Answer;
 use clocks::Clock;
 use log::Log;
 use sizes::CELLS;
 use sizes::THREADS;
 use undo::Event;
+use undo::Found;
 use undo::enter;
-use undo::is_found;
 
 // The last accesses: one for each cell and thread.
 pub const STAMPS: usize = CELLS * THREADS;
@@ -121,25 +123,37 @@ pub fn load(accesses: Accesses, clock: Clock, thread: u8, cell: u8, content: u64
     }
 }
 
-// LOG's own tests, before those of its append: 7, 9, 8.
-fn log_answer(log: Log, accesses: Accesses, clock: Clock, cell: u8) -> Answer
-    ensures { λ r. ⌜ r ≡ firstRefusal (logTestsOn log accesses clock cell) ⌝ }
+// 8, where the step races.
+fn race_answer(races: bool) -> Answer
+    ensures { λ r. ⌜ r ≡ firstRefusal ((races ⇒ Race) ∷ []) ⌝ }
 {
-    let tail = log.tail;
-    if tail.is_releasing() {
-        return Answer::Releasing;
-    }
-    let found = undo::logged(log, cell as usize);
-    if is_found(found) {
-        return Answer::AlreadyLogged;
-    }
-    if accesses.log_races(clock, cell) {
+    if races {
         return Answer::Race;
     }
     Answer::Accepted(0)
 }
 
-// LOG: a STORE entry with the cell's old content, where every earlier access of the cell that may race happens before. Answers its LSN.
+// LOG of a cell that the current region has no entry of: a STORE entry with the cell's old content, where every earlier access of the cell
+// that may race happens before. Answers the entry's LSN.
+fn log_first(log: Log, accesses: Accesses, clock: Clock, thread: u8, cell: u8, old: u64) -> Logged
+    ensures { λ r. ⌜ r ≡ firstLogOn log accesses clock thread cell old ⌝ }
+{
+    let asked = race_answer(accesses.log_races(clock, cell));
+    let entered = enter(log, asked, Event::Store { cell, old });
+    let answer = entered.answer;
+    let grown = entered.log;
+    let mut accessed = accesses;
+    if answer::number(answer) == 0 {
+        accessed = accesses.logged_cell(thread, cell, clock.at(thread));
+    }
+    Logged {
+        answer,
+        log: grown,
+        accesses: accessed,
+    }
+}
+
+// LOG: answers the LSN of the cell's entry in the current region. Where there is none it makes one; else all stays as it is.
 pub fn log_cell(
     log: Log,
     accesses: Accesses,
@@ -150,21 +164,21 @@ pub fn log_cell(
 ) -> Logged
     ensures { λ r. ⌜ r ≡ logOn log accesses clock thread cell old ⌝ }
 {
-    let asked = log_answer(log, accesses, clock, cell);
-    let entered = enter(log, asked, Event::Store { cell, old });
-    let answer = entered.answer;
-    let grown = entered.log;
-    if answer::number(answer) != 0 {
+    let tail = log.tail;
+    if tail.is_releasing() {
         return Logged {
-            answer,
-            log: grown,
+            answer: Answer::Releasing,
+            log,
             accesses,
         };
     }
-    let accessed = accesses.logged_cell(thread, cell, clock.at(thread));
-    Logged {
-        answer,
-        log: grown,
-        accesses: accessed,
+    let found = undo::logged(log, cell as usize);
+    match found {
+        Found::Nowhere => log_first(log, accesses, clock, thread, cell, old),
+        Found::At(lsn) => Logged {
+            answer: Answer::Accepted(lsn.0 as u64),
+            log,
+            accesses,
+        },
     }
 }

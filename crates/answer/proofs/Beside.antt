@@ -6,7 +6,7 @@ use mathlib.Core.Logic.{_⊎_, inl, inr, ⊎-elim}
 use Rattle.answer.specs.Answer.{valueOf, isAccepted}
 use Rattle.answer.specs.declared.Answer.{Answer}
 use Rattle.answer.specs.declared.Answer.the-variants.{Accepted, NoSuchKind, NoSuchThread, NoSuchPlace, UnusedField, LogFull}
-use Rattle.answer.specs.declared.Answer.the-variants.{LsnsUsedUp, Releasing, Race, AlreadyLogged, NotLogged, EntryNotDurable}
+use Rattle.answer.specs.declared.Answer.the-variants.{LsnsUsedUp, Releasing, Race, NotLogged, EntryNotDurable}
 use Rattle.answer.specs.declared.Answer.the-variants.{LockHeld, LockNotHeld, NotReleasing, NothingToPrune, EarlierReleaseNotPruned}
 use Rattle.answer.specs.declared.Answer.the-variants.{CellNotDurable, NoLiveEntry, Unreadable, WrongLength, BadHead, BadEntry, Cyclic}
 
@@ -25,7 +25,6 @@ accepted-or-zero LogFull = inr refl
 accepted-or-zero LsnsUsedUp = inr refl
 accepted-or-zero Releasing = inr refl
 accepted-or-zero Race = inr refl
-accepted-or-zero AlreadyLogged = inr refl
 accepted-or-zero NotLogged = inr refl
 accepted-or-zero EntryNotDurable = inr refl
 accepted-or-zero LockHeld = inr refl

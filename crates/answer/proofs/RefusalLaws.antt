@@ -1,10 +1,10 @@
 -- What follows for an outcome of tests in order: it is a refusal by one of them, or all of them failed and the effect happened.
 use mathlib.Core.Path.{_≡_, refl, sym, ap, _∙_}
-use mathlib.Core.Bool.{true, false, cond, true≢false}
+use mathlib.Core.Bool.{Bool, true, false, cond, true≢false}
 use mathlib.Core.List.{List, [], _∷_, _++_}
 use lib.Dec.{eqb}
 use Rattle.answer.specs.Answer.{numberOf, isAccepted}
-use Rattle.answer.specs.Refusals.{Test, _⇒_, unless, firstRefusal}
+use Rattle.answer.specs.Refusals.{Test, _⇒_, unless, guarded, firstRefusal}
 use Rattle.answer.specs.declared.Answer.{Answer}
 use Rattle.answer.specs.declared.Answer.the-variants.{Accepted}
 
@@ -29,6 +29,23 @@ allFail-right ((holds ⇒ answer) ∷ first) second fails = allFail-right first 
 pub allRefuse-append : (first second : List Test) → AllRefuse first → AllRefuse second → AllRefuse (first ++ second)
 allRefuse-append [] second one other = other
 allRefuse-append ((holds ⇒ answer) ∷ first) second one other = (one .0, allRefuse-append first second (one .1) other)
+
+-- tests that are asked only where something holds are refusals if they were before
+pub guarded-refuses : (isAsked : Bool) (tests : List Test) → AllRefuse tests → AllRefuse (guarded isAsked tests)
+guarded-refuses isAsked [] refusals = tt
+guarded-refuses isAsked ((holds ⇒ answer) ∷ tests) refusals = (refusals .0, guarded-refuses isAsked tests (refusals .1))
+
+-- where it holds, they are the tests
+pub guarded-asked : (tests : List Test) → guarded true tests ≡ tests
+guarded-asked [] = refl
+guarded-asked ((holds ⇒ answer) ∷ tests) = ap (λ (more : List Test). (holds ⇒ answer) ∷ more) (guarded-asked tests)
+
+-- where it does not hold, none of them decides
+pub guarded-unasked : {A : Type 0} (refuse : Answer → A) (outcome : A) (tests : List Test) →
+    unless refuse (guarded false tests) outcome ≡ outcome
+unfolding unless
+guarded-unasked refuse outcome [] = refl
+guarded-unasked refuse outcome ((holds ⇒ answer) ∷ tests) = guarded-unasked refuse outcome tests
 
 -- Two outcomes of the same tests go one way: what holds of both refusals, and of both effects where all tests failed, holds of both.
 pub unless-both : {A B : Type 0} (Q : A → B → Type 0) (refuse : Answer → A) (report : Answer → B) (tests : List Test)

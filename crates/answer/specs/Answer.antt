@@ -4,7 +4,7 @@ use mathlib.Core.Bool.{Bool}
 use lib.Dec.{eqb}
 use Rattle.answer.specs.declared.Answer.{Answer}
 use Rattle.answer.specs.declared.Answer.the-variants.{Accepted, NoSuchKind, NoSuchThread, NoSuchPlace, UnusedField, LogFull}
-use Rattle.answer.specs.declared.Answer.the-variants.{LsnsUsedUp, Releasing, Race, AlreadyLogged, NotLogged, EntryNotDurable}
+use Rattle.answer.specs.declared.Answer.the-variants.{LsnsUsedUp, Releasing, Race, NotLogged, EntryNotDurable}
 use Rattle.answer.specs.declared.Answer.the-variants.{LockHeld, LockNotHeld, NotReleasing, NothingToPrune, EarlierReleaseNotPruned}
 use Rattle.answer.specs.declared.Answer.the-variants.{CellNotDurable, NoLiveEntry, Unreadable, WrongLength, BadHead, BadEntry, Cyclic}
 
@@ -19,7 +19,6 @@ numberOf LogFull = 5
 numberOf LsnsUsedUp = 6
 numberOf Releasing = 7
 numberOf Race = 8
-numberOf AlreadyLogged = 9
 numberOf NotLogged = 10
 numberOf EntryNotDurable = 11
 numberOf LockHeld = 12
@@ -46,7 +45,6 @@ valueOf LogFull = 0
 valueOf LsnsUsedUp = 0
 valueOf Releasing = 0
 valueOf Race = 0
-valueOf AlreadyLogged = 0
 valueOf NotLogged = 0
 valueOf EntryNotDurable = 0
 valueOf LockHeld = 0

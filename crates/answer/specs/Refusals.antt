@@ -1,6 +1,6 @@
 -- Refusals as document 01 gives them: a list of tests in order, the first that holds decides, and where none holds the effect happens.
 use Prim.Native.Nat.{ℕ}
-use mathlib.Core.Bool.{Bool, cond}
+use mathlib.Core.Bool.{Bool, cond, _&&_}
 use mathlib.Core.List.{List, [], _∷_}
 use Rattle.answer.specs.declared.Answer.{Answer}
 use Rattle.answer.specs.declared.Answer.the-variants.{Accepted}
@@ -14,6 +14,11 @@ pub data Test : Type 0 where
 unfoldable pub unless : {A : Type 0} → (Answer → A) → List Test → A → A
 unless refuse [] outcome = outcome
 unless refuse ((holds ⇒ answer) ∷ tests) outcome = cond holds (refuse answer) (unless refuse tests outcome)
+
+-- tests that are asked only where this holds
+abbrev pub guarded : Bool → List Test → List Test
+guarded isAsked [] = []
+guarded isAsked ((holds ⇒ answer) ∷ tests) = (isAsked && holds ⇒ answer) ∷ guarded isAsked tests
 
 -- the refusal of the first test that holds, and acceptance where none does
 unfoldable pub firstRefusal : List Test → Answer

@@ -1,5 +1,5 @@
 -- The accesses' invariant: each stamp is the epoch of a thread's last access of a cell, and of a cell's last LOG, before which all its
--- other LOGs happen.
+-- other LOGs happen, and before or after which all its LOADs do.
 use Prim.Native.Nat.{ℕ, suc, _<_, _≤_, _*_}
 use mathlib.Core.Path.{_≡_, refl, sym, _∙_, ap}
 use mathlib.Core.Bool.{true, false, false≢true}
@@ -29,6 +29,10 @@ pub record Took (history : List Fed) (Sort : Fed → Type 0) (place : ℕ) : Typ
 abbrev pub AccessOf : ℕ → ℕ → Fed → Type 0
 AccessOf cell thread step = IsAccess (step .kind) × (step .place ≡ cell) × (step .thread ≡ thread)
 
+-- an access of the cell
+abbrev pub AccessTo : ℕ → Fed → Type 0
+AccessTo cell step = IsAccess (step .kind) × (step .place ≡ cell)
+
 -- a LOG (2) of the cell
 abbrev pub LogOf : ℕ → Fed → Type 0
 LogOf cell step = (step .kind ≡ 2) × (step .place ≡ cell)
@@ -38,13 +42,15 @@ pub record Stamped (history : List Fed) (Sort : Fed → Type 0) (stamp : ℕ) : 
   pub atMost : (place : ℕ) → Took history Sort place → epochAt history place ≤ stamp
   pub latest : stamp ≢ 0 → (place : ℕ) × Took history Sort place × (epochAt history place ≡ stamp)
 
--- a LOG of the cell, with its thread and epoch, before which all others happen
+-- a LOG of the cell, with its thread and epoch, before which all other LOGs happen, and every LOAD before it or after it
 pub record LastLog (history : List Fed) (cell stamp logger : ℕ) : Type 0 where
   pub place : ℕ
   pub isLog : Took history (LogOf cell) place
   pub isLogger : stepAt history place .thread ≡ logger
   pub isEpoch : epochAt history place ≡ stamp
   pub othersBefore : (other : ℕ) → Took history (LogOf cell) other → (other ≡ place) ⊎ HappensBefore history other place
+  pub ordered : (other : ℕ) → Took history (AccessTo cell) other →
+      (other ≡ place) ⊎ (HappensBefore history other place ⊎ HappensBefore history place other)
 
 -- the stamp and the thread are those of the cell's last LOG, and the stamp is 0 where there is none
 pub record Logged (history : List Fed) (cell stamp logger : ℕ) : Type 0 where
@@ -133,10 +139,15 @@ module _ (history : List Fed) (next : Fed) where
     latest = λ isSome. (length history, took-next isAccepted isSort, epoch-next history next);
   }
 
-  -- a step that is refused or no LOG of the cell leaves the last LOG what it is
+  -- all LOGs of the cell happen before the next step
+  abbrev pub LogsBefore : ℕ → Type 0
+  LogsBefore cell = (place : ℕ) → Took history (LogOf cell) place → HappensBefore (andThen history next) place (length history)
+
+  -- a step that is refused, of another cell, or a LOAD that all LOGs happen before leaves the last LOG what it is
   logged-other : (cell stamp logger : ℕ) → (next .accepted ≡ true → LogOf cell next → ⊥) →
-      Logged history cell stamp logger → Logged (andThen history next) cell stamp logger
-  logged-other cell stamp logger isOther logged = record {
+      (next .accepted ≡ true → AccessTo cell next → LogsBefore cell) → Logged history cell stamp logger →
+      Logged (andThen history next) cell stamp logger
+  logged-other cell stamp logger isOther inOrder logged = record {
     none = λ isNone. took-cases (LogOf cell) (λ place. ⊥) (logged .none isNone) isOther;
     last = λ isSome.
         let last = logged .last isSome in
@@ -154,12 +165,28 @@ module _ (history : List Fed) (next : Fed) where
               (λ other took.
               ⊎-elim (λ same. inl same) (λ before. inr (before-stays history (next ∷ []) before)) (last .othersBefore other took))
               (λ isAccepted isLog. absurd (isOther isAccepted isLog));
+          ordered =
+              took-cases
+              (AccessTo cell)
+              (λ other. (other ≡ last .place) ⊎
+              (HappensBefore (andThen history next) other (last .place) ⊎ HappensBefore (andThen history next) (last .place) other))
+              (λ other took.
+              ⊎-elim
+              (λ same. inl same)
+              (λ either.
+              inr
+              (⊎-elim
+              (λ before. inl (before-stays history (next ∷ []) before))
+              (λ after. inr (before-stays history (next ∷ []) after))
+              either))
+              (last .ordered other took))
+              (λ isAccepted isAccess. inr (inr (inOrder isAccepted isAccess (last .place) (last .isLog))));
         };
   }
 
-  -- a LOG of the cell is the last one, if all others happen before it
+  -- a LOG of the cell is the last one, if all accesses happen before it
   logged-next : (cell : ℕ) → next .accepted ≡ true → LogOf cell next →
-      ((place : ℕ) → Took history (LogOf cell) place → HappensBefore (andThen history next) place (length history)) →
+      ((place : ℕ) → Took history (AccessTo cell) place → HappensBefore (andThen history next) place (length history)) →
       Logged (andThen history next) cell (suc (releases history (next .thread))) (next .thread)
   logged-next cell isAccepted isLog old = record {
     none = λ isNone. absurd (omega arith);
@@ -172,8 +199,15 @@ module _ (history : List Fed) (next : Fed) where
           took-cases
           (LogOf cell)
           (λ other. (other ≡ length history) ⊎ HappensBefore (andThen history next) other (length history))
-          (λ other took. inr (old other took))
+          (λ other took. inr (old other (record { isAccepted = took .isAccepted; isSort = (inr (took .isSort .0), took .isSort .1) })))
           (λ isAccepted isLog. inl refl);
+      ordered =
+          took-cases
+          (AccessTo cell)
+          (λ other. (other ≡ length history) ⊎
+          (HappensBefore (andThen history next) other (length history) ⊎ HappensBefore (andThen history next) (length history) other))
+          (λ other took. inr (inl (old other took)))
+          (λ isAccepted isAccess. inl refl);
     };
   }
 
@@ -187,7 +221,9 @@ module _ (history : List Fed) (next : Fed) where
           (accessed .stamps cell thread isCell isThread);
       logs = λ cell isCell.
           logged-other cell (getD (accesses .logged) cell 0) (getD (accesses .loggers) cell 0)
-          (λ isAccepted isSort. absurd (false≢true (sym isRefused ∙ isAccepted))) (accessed .logs cell isCell);
+          (λ isAccepted isSort. absurd (false≢true (sym isRefused ∙ isAccepted)))
+          (λ isAccepted isAccess. absurd (false≢true (sym isRefused ∙ isAccepted)))
+          (accessed .logs cell isCell);
     }
 
     pub accessed-plain : (IsAccess (next .kind) → ⊥) → Accessed accesses (andThen history next)
@@ -197,7 +233,9 @@ module _ (history : List Fed) (next : Fed) where
           (λ isAccepted isSort. isOther (isSort .0)) (accessed .stamps cell thread isCell isThread);
       logs = λ cell isCell.
           logged-other cell (getD (accesses .logged) cell 0) (getD (accesses .loggers) cell 0)
-          (λ isAccepted isSort. isOther (inr (isSort .0))) (accessed .logs cell isCell);
+          (λ isAccepted isSort. isOther (inr (isSort .0)))
+          (λ isAccepted isAccess. absurd (isOther (isAccess .0)))
+          (accessed .logs cell isCell);
     }
 
     -- an accepted access is stamped with its epoch, and a LOG is the cell's last one, if all earlier ones happen before it
@@ -234,14 +272,16 @@ module _ (history : List Fed) (next : Fed) where
               let sameThread : next .thread ≡ thread = isSort .2 in
               omega arith
 
-      pub accessed-load : next .kind ≡ 1 →
+      pub accessed-load : next .kind ≡ 1 → LogsBefore (next .place) →
           Accessed (loadedOf accesses (next .thread) (next .place) (suc (releases history (next .thread)))) (andThen history next)
       unfolding loadedOf
-      accessed-load isLoad = record {
+      accessed-load isLoad inOrder = record {
         stamps = stamped-access (inl isLoad);
         logs = λ cell cellIn.
             logged-other cell (getD (accesses .logged) cell 0) (getD (accesses .loggers) cell 0)
-            (λ isAccepted isSort. notLog (isSort .0)) (accessed .logs cell cellIn);
+            (λ isAccepted isSort. notLog (isSort .0))
+            (λ isAccepted isAccess. rw (← isAccess .1) inOrder)
+            (accessed .logs cell cellIn);
       }
         where
           notLog : next .kind ≡ 2 → ⊥
@@ -249,7 +289,7 @@ module _ (history : List Fed) (next : Fed) where
 
       pub accessed-log : next .kind ≡ 2 → length (accesses .logged) ≡ cellCount →
           length (accesses .loggers) ≡ cellCount →
-          ((place : ℕ) → Took history (LogOf (next .place)) place → HappensBefore (andThen history next) place (length history)) →
+          ((place : ℕ) → Took history (AccessTo (next .place)) place → HappensBefore (andThen history next) place (length history)) →
           Accessed (loggedCellOf accesses (next .thread) (next .place) (suc (releases history (next .thread)))) (andThen history next)
       unfolding loggedCellOf
       accessed-log isLog wholeLogged wholeLoggers old = record {
@@ -268,5 +308,7 @@ module _ (history : List Fed) (next : Fed) where
               getD-set-other (accesses .loggers) (next .place) cell (next .thread) 0 differs,
             )
             (logged-other cell (getD (accesses .logged) cell 0) (getD (accesses .loggers) cell 0)
-            (λ isAccepted isSort. differs (sym (isSort .1))) (accessed .logs cell cellIn)));
+            (λ isAccepted isSort. differs (sym (isSort .1)))
+            (λ isAccepted isAccess. absurd (differs (sym (isAccess .1))))
+            (accessed .logs cell cellIn)));
       }

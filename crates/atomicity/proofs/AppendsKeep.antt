@@ -1,11 +1,12 @@
--- The steps that make an entry keep what holds of a machine and its history: LOG, ACQUIRE and LOGREL.
+-- The steps that make an entry keep what holds of a machine and its history: LOG of a cell without one in the current region, ACQUIRE and
+-- LOGREL.
 use Prim.Native.Nat.{ℕ, suc, _+_, _-_, _≤_, _<_}
 use native.Mathlib.Decide.{decLt, ℕ-discrete}
 use native.Mathlib.Omega.{arith}
 use mathlib.Core.Path.{_≡_, refl, sym, ap, _∙_, subst}
-use mathlib.Core.Bool.{true, false, cond, _||_, true≢false}
+use mathlib.Core.Bool.{Bool, true, false, cond, _&&_, true≢false}
 use mathlib.Core.List.{List, _∷_}
-use mathlib.Core.Logic.{_⊎_, inl, inr, ⊎-elim, by-cases}
+use mathlib.Core.Logic.{_⊎_, inl, inr, ⊎-elim, by-cases, _≢_}
 use lib.ListN.{length, getD, set}
 use lib.Seq.{getD-set-same, getD-set-other}
 use lib.Dec.{eqb}
@@ -26,7 +27,7 @@ use Rattle.tail.specs.declared.Releasing.the-variants.{Nothing, Lock}
 use Rattle.undo.proofs.UndoInvariant.{UndoHolds, withEvent, enter-holds}
 use Rattle.undo.proofs.LoggedLaws.{logged-nowhere}
 use Rattle.accesses.specs.Accesses.{loggedCellOf}
-use Rattle.machine.specs.Effects.{logEffect, acquireEffect, logReleaseEffect, effect}
+use Rattle.machine.specs.Effects.{firstLogEffect, acquireEffect, logReleaseEffect, effect}
 use Rattle.locks.specs.Locks.{noLock}
 use Rattle.machine.specs.Holds.{lockOf}
 use Rattle.kinds.specs.Kinds.{LOG, ACQUIRE, LOGREL}
@@ -35,12 +36,14 @@ use Rattle.clocks.specs.declared.Clock.{Clock}
 use Rattle.locks.specs.declared.Holder.the-variants.{Thread}
 use Rattle.locks.specs.declared.Lock.{Lock as LockState}
 use Rattle.machine.specs.declared.Machine.{Machine}
-use Rattle.machine.proofs.AcceptedMeans.{LogAsked, log-asked, acquire-asked, log-release-asked}
+use Rattle.machine.specs.declared.Stepped.{Stepped}
+use Rattle.machine.proofs.AcceptedMeans.{LogAsked, log-asked, FirstLogAsked, first-log-asked, acquire-asked, log-release-asked}
+use Rattle.machine.proofs.LogCases.{log-first}
 use Rattle.machine.proofs.Sizes.{Sized, effect-sized}
 use Rattle.machine.proofs.StepLaws.{testsOf}
 use Rattle.atomicity.specs.History.{Fed, stepAt}
 use Rattle.atomicity.specs.Races.{Conflict}
-use Rattle.atomicity.proofs.Logged.{Entries, Made, Is, Appends, is-cases, new-is}
+use Rattle.atomicity.proofs.Logged.{Entries, Made, Is, Appends, is-cases, new-made, new-is}
 use Rattle.atomicity.proofs.Locks.{AppendLocks, locks-append, prunes-append}
 use Rattle.atomicity.proofs.Leads as Order
 use Rattle.atomicity.proofs.Leads.{Leads}
@@ -48,9 +51,10 @@ use Rattle.atomicity.proofs.Cells.{Version, Chain, linked, unlogged, Ne
 use Rattle.atomicity.proofs.Cells.{LogsCell, cells-log, cells-boundary}
 use Rattle.atomicity.proofs.Follows.{Follows}
 use Rattle.atomicity.proofs.HistoryRuns.{tookStep}
-use Rattle.atomicity.proofs.Places.{PlacesHold, madeBy, lastOf, makes, made-new, step-before, step-new, last-before, places-step}
-use Rattle.atomicity.proofs.Places.{before-leads}
-use Rattle.atomicity.proofs.RaceLaw.{log-decides}
+use Rattle.atomicity.proofs.Places.{PlacesHold, LogStands, madeBy, lastOf, made-new, step-before, step-new, last-was}
+use Rattle.atomicity.proofs.Places.{places-step, before-leads}
+use Rattle.atomicity.proofs.PrunedCounts.{counted-same, counted-longer}
+use Rattle.atomicity.proofs.RaceTests.{log-decides}
 use Rattle.atomicity.proofs.Times.{Formed, aStore, anAcquire, aRelease, stepKindOf, times-append}
 use Rattle.atomicity.proofs.LogViews.{setAt, setAt-here, setAt-other, logAt, viewOf, by-log, log-same, log-other, eventsThen}
 use Rattle.atomicity.proofs.LogViews.{timesThen, append-view}
@@ -96,12 +100,12 @@ same-lock = record {
 
 -- what a step that makes an entry must show: its kind, what the entry says of its cell or its lock, and what it leaves of the locks
 record AppendStep (machine : Machine) (thread kind place : ℕ) (event : Event) (locks : List LockState) : Type 0 where
-  -- 2 LOG, 4 ACQUIRE or 5 LOGREL
-  isKind : (eqb kind 2 || (eqb kind 4 || eqb kind 5)) ≡ true
+  notRelease : kind ≢ 6
   notReleasing : logAt (machine .logs) thread .tail .releasing ≡ Nothing
   isFormed : Formed event
   isStep : kind ≡ stepKindOf event
   isPlace : place ≡ placeOf event
+  isLog : kind ≡ 2 → (old : ℕ) × (event ≡ Store place old)
   isAcquire : kind ≡ 4 → event ≡ Acquire place (lockOf machine place .count)
   acquireHas : {lock : ℕ} {count : SyncCount} → event ≡ Acquire lock count → count ≡ lockOf machine lock .count
   releaseHas : {lock : ℕ} {count : SyncCount} → event ≡ Release lock count →
@@ -132,15 +136,19 @@ module _ {start : Beginning} {machine : Machine} {history : List Fed} {ghost : G
   abbrev pub timeThen : ℕ → ℕ → ℕ
   timeThen = timesThen (machine .logs) (ghost .time) thread (length history)
 
+  abbrev pub madeThen : ℕ → Bool
+  madeThen = setAt (ghost .made) (length history) true
+
   abbrev pub entriesThen : Entries
-  entriesThen = viewOf (start .before) logsThen eventThen timeThen
+  entriesThen = viewOf (start .before) logsThen eventThen timeThen madeThen
 
   pub appends : Appends (entriesOf start machine ghost) entriesThen (length history) thread event
   appends =
       let since =
       machineHolds .begins thread inRange in
       let within = holds .headNext in
-      append-view (start .before) (machine .logs) (ghost .event) (ghost .time) (length history) thread event inLogs (omega arith)
+      append-view (start .before) (machine .logs) (ghost .event) (ghost .time) (ghost .made) (length history) thread event
+      inLogs (omega arith)
 
   pub logs-append : (other : ℕ) → other < threadCount → UndoHolds (logAt logsThen other) (eventThen other)
   logs-append =
@@ -164,12 +172,12 @@ module _ {start : Beginning} {machine : Machine} {history : List Fed} {ghost : G
       head-append appends other (machineHolds .begins other within) (bounds .headNext) (machineHolds .heads other within)
 
   -- the new step stands at the new entry
-  pub last-new : (fed : Fed) → makes fed thread ≡ true →
-      madeBy (start .before) (andThen history fed) thread (suc (length history)) ≡ log .tail .next .0
-  last-new fed isMade =
-      made-new history fed (start .before) thread ∙
+  pub last-new : (fed : Fed) → fed .thread ≡ thread →
+      madeBy entriesThen (andThen history fed) thread (suc (length history)) ≡ log .tail .next .0
+  last-new fed isThread =
+      made-new history fed (appends .grows) thread ∙
       (let counted = machineHolds .places .nextIs thread inRange in
-      rw isMade (omega arith))
+      rw (appends .madeNew, eq-eqb (fed .thread) thread isThread) (omega arith))
 
   pub releasing-append : logAt logsThen thread .tail .releasing ≡ closedBy (log .tail .releasing) (closesOf event)
   unfolding appendOf grownTail
@@ -184,22 +192,35 @@ module _ {start : Beginning} {machine : Machine} {history : List Fed} {ghost : G
     abbrev fed : Fed
     fed = record { kind = kind; thread = thread; place = place; value = value; accepted = true }
 
-    -- the step makes an entry of its thread
-    is-made : makes fed thread ≡ true
-    is-made = rw (eq-eqb thread thread refl) (step .isKind)
-
     -- the step's last LSN is the new entry's
-    last-append : lastOf (start .before) (andThen history fed) (length history) ≡ log .tail .next .0
-    last-append = rw (step-new history fed) (last-new fed is-made)
+    last-append : lastOf entriesThen (andThen history fed) (length history) ≡ log .tail .next .0
+    last-append = rw (step-new history fed) (last-new fed refl)
 
     -- the next LSN of each thread counts the entry that the step makes of it
     next-append : (other : ℕ) → other < threadCount →
-        entriesThen .next other ≡ cond (makes fed other) 1 0 + logAt (machine .logs) other .tail .next .0
+        entriesThen .next other ≡
+        cond (entriesThen .made (length history) && eqb thread other) 1 0 + logAt (machine .logs) other .tail .next .0
     next-append other within =
         by-cases
         (ℕ-discrete other thread)
-        (λ same. rw (same, is-made) (let more = appends .nextMore in omega arith))
-        (λ differs. rw (ne-eqb thread other (λ same. differs (sym same))) (let kept = appends .nextOther other differs in omega arith))
+        (λ same. rw (same, appends .madeNew, eq-eqb thread thread refl) (let more = appends .nextMore in omega arith))
+        (λ differs.
+        rw (appends .madeNew, ne-eqb thread other (λ same. differs (sym same)))
+        (let kept = appends .nextOther other differs in
+        omega arith))
+
+    -- a LOG stands at its entry
+    log-append : kind ≡ 2 → LogStands entriesThen thread (log .tail .next .0) place
+    log-append isKind =
+        let store = step .isLog isKind in
+        record {
+          number = log .tail .next .0;
+          old = store .0;
+          isEntry = rw (← store .1) (new-is appends);
+          isLast = new-made appends;
+          upTo = omega arith;
+          noBoundary = λ later after within. absurd (omega arith);
+        }
 
     -- the places after the step
     places-append : PlacesHold (andThen history fed) entriesThen (λ lock. getD locks lock noLock .count .0)
@@ -211,8 +232,10 @@ module _ {start : Beginning} {machine : Machine} {history : List Fed} {ghost : G
           thread = λ isAccepted. inRange;
           nextNew = next-append;
           countGrows = λ lock. rw (step .lockKept lock .countSame) (omega arith);
-          newRelease = λ isAccepted isKind. absurd (true≢false (sym (rw isKind at (step .isKind))));
-          newAcquire = λ isAccepted isKind. rw (last-new fed is-made, ← step .isAcquire isKind) (new-is appends);
+          newMade = λ isAccepted isKind. appends .madeNew;
+          newLog = λ isAccepted isKind. rw (last-new fed refl) (log-append isKind);
+          newRelease = λ isAccepted isKind. absurd (step .notRelease isKind);
+          newAcquire = λ isAccepted isKind. rw (last-new fed refl, ← step .isAcquire isKind) (new-is appends);
           newTaken = λ {lock = lock} release taken.
               let before = rw (step .lockKept lock .countSame) at taken in
               ⊎-elim
@@ -238,7 +261,7 @@ module _ {start : Beginning} {machine : Machine} {history : List Fed} {ghost : G
         Sized (machineThen clocks lockClocks accesses) →
         CellsHold entriesThen (contentsOf start (machine .cache)) versions →
         MachineInvariant start (machineThen clocks lockClocks accesses) (andThen history fed)
-        (record { event = eventThen; time = timeThen; versions = versions })
+        (record { event = eventThen; time = timeThen; made = madeThen; versions = versions })
     machine-append {clocks} {lockClocks} {accesses} sized cells =
         let appendLocks : AppendLocks (entriesOf start machine ghost) entriesThen (length history) thread event
         (locksOf machine) (locksOf (machineThen clocks lockClocks accesses)) =
@@ -281,6 +304,9 @@ module _ {start : Beginning} {machine : Machine} {history : List Fed} {ghost : G
                 isLast = last-append;
               })
               (machineHolds .times);
+          counted =
+              counted-same (appends .headSame) (λ lock. step .lockKept lock .prunedSame)
+              (counted-longer fed (appends .grows) (λ lock releases. rw (last-new fed refl) (holds .headNext)) (machineHolds .counted));
         }
 
 -- a lock that is put in place is found there, and the others are as they were
@@ -308,6 +334,7 @@ module _ {start : Beginning} {machine : Machine} {history : List Fed} {ghost : G
   ghostThen event versions = record {
     event = eventsThen (machine .logs) (ghost .event) thread event;
     time = timesThen (machine .logs) (ghost .time) thread (length history);
+    made = setAt (ghost .made) (length history) true;
     versions = versions;
   }
 
@@ -330,11 +357,12 @@ module _ {start : Beginning} {machine : Machine} {history : List Fed} {ghost : G
         holderCases = λ nowHeld. inr ((cc), refl);
       } in
       let step : AppendStep machine thread 4 place acquireEntry (set (machine .locks) place held) = record {
-        isKind = refl;
+        notRelease = omega arith;
         notReleasing = asked .notReleasing;
         isFormed = anAcquire (asked .inLock);
         isStep = refl;
         isPlace = refl;
+        isLog = λ isKind. absurd (omega arith);
         isAcquire = λ isKind. refl;
         acquireHas = λ says. cc;
         releaseHas = λ says. ((cc), (cc));
@@ -359,11 +387,12 @@ module _ {start : Beginning} {machine : Machine} {history : List Fed} {ghost : G
   machine-log-release fails =
       let asked = log-release-asked machine thread place value fails in
       let step : AppendStep machine thread 5 place releaseEntry (machine .locks) = record {
-        isKind = refl;
+        notRelease = omega arith;
         notReleasing = asked .notReleasing;
         isFormed = aRelease (asked .inLock);
         isStep = refl;
         isPlace = refl;
+        isLog = λ isKind. absurd (omega arith);
         isAcquire = λ isKind. cc;
         acquireHas = λ says. cc;
         releaseHas = λ says. ((cc), (cc));
@@ -390,7 +419,7 @@ module _ {start : Beginning} {machine : Machine} {history : List Fed} {ghost : G
   abbrev pub loggedEntries : Entries
   loggedEntries =
       viewOf (start .before) (set (machine .logs) thread (enterOf (logAt (machine .logs) thread) storeEntry))
-      (ghostThen storeEntry loggedVersions .event) (ghostThen storeEntry loggedVersions .time)
+      (ghostThen storeEntry loggedVersions .event) (ghostThen storeEntry loggedVersions .time) (ghostThen storeEntry loggedVersions .made)
 
   -- no entry is empty
   formed-not-empty : {event : Event} → Formed event → event ≡ Empty → ⊥
@@ -452,19 +481,24 @@ module _ {start : Beginning} {machine : Machine} {history : List Fed} {ghost : G
       (λ ends. true≢false (sym ends ∙ found .1))
       (ended .laterEnds))
 
-  -- the history, its places and the cell after a LOG; its value is 0
-  module _ (follows : Follows machine history) (fails : AllFail (testsOf machine LOG thread place value)) where
+  -- the history, its places and the cell after a LOG of a cell without an entry in the current region; its value is 0
+  module _ (follows : Follows machine history) (fails : AllFail (testsOf machine LOG thread place value))
+      (isNowhere : loggedOf (logAt (machine .logs) thread) place ≡ Nowhere) where
     asked : LogAsked machine thread place value
     asked = log-asked machine thread place value fails
+
+    appending : FirstLogAsked machine thread place
+    appending = first-log-asked machine thread place value fails isNowhere
 
     -- what LOG shows of its entry
     log-step : AppendStep machine thread 2 place storeEntry (machine .locks)
     log-step = record {
-      isKind = refl;
+      notRelease = omega arith;
       notReleasing = asked .notReleasing;
       isFormed = aStore (asked .inCell);
       isStep = refl;
       isPlace = refl;
+      isLog = λ isKind. (_, refl);
       isAcquire = λ isKind. cc;
       acquireHas = λ says. cc;
       releaseHas = λ says. ((cc), (cc));
@@ -473,7 +507,7 @@ module _ {start : Beginning} {machine : Machine} {history : List Fed} {ghost : G
     }
 
     pub log-appends : Appends (entriesOf start machine ghost) loggedEntries (length history) thread storeEntry
-    log-appends = appends machineHolds thread (asked .inThread) storeEntry (asked .room)
+    log-appends = appends machineHolds thread (asked .inThread) storeEntry (appending .room)
 
     -- the cell's newest version leads to the new one: it is the thread's own, or it would race
     newest-ordered : {versions : List Version} {first : ℕ} →
@@ -490,9 +524,9 @@ module _ {start : Beginning} {machine : Machine} {history : List Fed} {ghost : G
         let new : stepAt (andThen history fed) (length history) ≡ fed = step-new history fed in
         let wasThread : stepAt (andThen history fed) at .thread ≡ version .thread = ap (λ (s : Fed). s .thread) old ∙ made .isThread in
         let nowThread : stepAt (andThen history fed) (length history) .thread ≡ thread = ap (λ (s : Fed). s .thread) new in
-        let wasLast = last-before history fed (start .before) past ∙ made .isLast in
-        let isLast = last-append machineHolds thread (asked .inThread) storeEntry (asked .room) 0 log-step in
-        let places = places-append machineHolds thread (asked .inThread) storeEntry (asked .room) 0 log-step in
+        let wasLast = last-was history fed (log-appends .grows) past ∙ made .isLast in
+        let isLast = last-append machineHolds thread (asked .inThread) storeEntry (appending .room) 0 log-step in
+        let places = places-append machineHolds thread (asked .inThread) storeEntry (appending .room) 0 log-step in
         leads-to
         (by-cases
         (ℕ-discrete (version .thread) thread)
@@ -513,7 +547,7 @@ module _ {start : Beginning} {machine : Machine} {history : List Fed} {ghost : G
           oneIsLog = inl (ap (λ (s : Fed). s .kind) old ∙ made .isKind);
         } in
         let before =
-        log-decides machine history follows thread place (asked .inThread) (asked .inCell) .ordered (asked .noRace) at conflict in
+        log-decides machine history follows thread place (asked .inThread) (asked .inCell) .ordered (appending .noRace) at conflict in
         rw (wasLast, isLast, wasThread, nowThread) at (before-leads places before)))
 
     -- what LOG does to the cell
@@ -525,19 +559,26 @@ module _ {start : Beginning} {machine : Machine} {history : List Fed} {ghost : G
         record {
           appends = log-appends;
           ordered = newest-ordered (machineHolds .cells .chain place);
-          notLogged = nowhere-current (asked .inThread) (asked .notLogged);
+          notLogged = nowhere-current (asked .inThread) isNowhere;
           versionNew = setAt-here (ghost .versions) place (version ∷ ghost .versions place);
           versionsOther = λ other differs. setAt-other (ghost .versions) place (version ∷ ghost .versions place) other differs;
         }
 
-    pub machine-log : MachineInvariant start (effect machine LOG thread place value .machine)
+    log-sized : Sized (firstLogEffect machine thread place .machine)
+    unfolding effect
+    log-sized =
+        subst
+        (λ (stepped : Stepped). Sized (stepped .machine))
+        (log-first machine thread place isNowhere)
+        (effect-sized machine (machineHolds .sized) LOG thread place value fails)
+
+    pub machine-log : MachineInvariant start (firstLogEffect machine thread place .machine)
         (andThen history (tookStep LOG thread place value)) (ghostThen storeEntry loggedVersions)
-    unfolding effect logEffect loggedCellOf
+    unfolding firstLogEffect loggedCellOf
     machine-log =
         subst
-        (λ (v : ℕ). MachineInvariant start (effect machine LOG thread place value .machine)
+        (λ (v : ℕ). MachineInvariant start (firstLogEffect machine thread place .machine)
         (andThen history (tookStep LOG thread place v)) (ghostThen storeEntry loggedVersions))
         (sym (asked .noValue))
-        (machine-append machineHolds thread (asked .inThread) storeEntry (asked .room) 0 log-step
-        (effect-sized machine (machineHolds .sized) LOG thread place value fails)
+        (machine-append machineHolds thread (asked .inThread) storeEntry (appending .room) 0 log-step log-sized
         (cells-log logs-cell (machineHolds .cells)))

@@ -1,4 +1,4 @@
--- A cell's versions: each LOG of the cell, newest first, with the content after the last STORE made under it.
+-- A cell's versions: each entry of the cell, newest first, with the content after the last STORE made under it.
 -- Each version's entry has the content that the version before it left; versions are in order; a version that isn't durable changed
 -- nothing; and where no live version is durable the cell's persisted content is its cached one. Each kind of step keeps all of it.
 use Prim.Native.Nat.{ℕ, _≤_, _<_}
@@ -14,7 +14,7 @@ use Rattle.undo.specs.declared.Event.the-variants.{Store}
 use Rattle.atomicity.proofs.Logged.{Entries, Made, Is, Grows, Keeps, Appends, still-is, kept-is, new-is, is-cases}
 use Rattle.atomicity.proofs.Leads.{Leads, leads-grow, leads-on}
 
--- a LOG of the cell: its thread and LSN, and the cell's content after the last STORE made under it
+-- an entry of the cell: its thread and LSN, and the cell's content after the last STORE made under it
 pub record Version : Type 0 where
   pub thread : ℕ
   pub lsn : ℕ
@@ -197,7 +197,7 @@ stays-in-thread {entries} {thread} {number} {other} {later} is none leads =
     absurd (omega arith)))
     (leads-on leads)
 
--- what a LOG of a cell asks and does: one version more, of the content that the cell has
+-- what a LOG that makes an entry asks and does: one version more, of the content that the cell has
 pub record LogsCell (old new : Entries) (now thread cell : ℕ) (contents : Contents) (versions after : ℕ → List Version) : Type 0 where
   pub appends : Appends old new now thread (Store cell (contents .cached cell))
   pub ordered : NewestLeads new thread (old .next thread) (versions cell)

@@ -45,7 +45,7 @@ closed-regions {start} {machine} {history} runHolds earlier later before isCommi
     let second = runHolds .joined (before .laterStep) later (before .isLaterStep) in
     let leads = before-leads (runHolds .machineHolds .places) (before .happensBefore) in
     let head = entries .head (stepAt history (before .laterStep) .thread) in
-    let number = lastOf (entries .before) history (before .laterStep) in
+    let number = lastOf entries history (before .laterStep) in
     let isPruned : ltb number head ≡ true =
     sym (runHolds .regions .committed (second .0)) ∙
     (ap (isCommittedAt (bookOf start history .regions)) (second .1) ∙ isCommitted) in

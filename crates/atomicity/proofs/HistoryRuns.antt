@@ -11,13 +11,14 @@ use borrow.Author.Tests.{ltb-true, eqb-true, not-false}
 use Rattle.sizes.specs.Sizes.{threadCount}
 use Rattle.answer.specs.Answer.{isAccepted}
 use Rattle.answer.proofs.RefusalLaws.{AllFail}
-use Rattle.machine.specs.Effects.{loadEffect, logEffect, storeEffect, acquireEffect, logReleaseEffect, releaseEffect, flushEffect}
+use Rattle.machine.specs.Effects.{loadEffect, firstLogEffect, storeEffect, acquireEffect, logReleaseEffect, releaseEffect, flushEffect}
 use Rattle.machine.specs.Effects.{flushLogEffect, fenceEffect, pruneEffect, evictEffect, evictLogEffect, effect}
 use Rattle.kinds.specs.Kinds.{Kind, LOAD, LOG, STORE, ACQUIRE, LOGREL, RELEASE, FLUSH, FLUSHLOG, FENCE, PRUNE, EVICT, EVICTLOG, kindOf}
 use Rattle.kinds.specs.Kinds.{fieldsOf, isOver, inputTests}
 use Rattle.machine.specs.Refusals.{stateTests}
 use Rattle.machine.specs.Runs.{Step, stepWith, after}
 use Rattle.machine.specs.declared.Machine.{Machine}
+use Rattle.machine.proofs.LogCases.{log-cases}
 use Rattle.machine.proofs.StepLaws.{testsOf, step-cases}
 use Rattle.atomicity.specs.History.{Fed, fedWith, historyOf}
 use Rattle.atomicity.proofs.Ordered.{andThen}
@@ -79,10 +80,11 @@ module _ (machine : Machine) (kind : Kind) (thread place value : ℕ) (fails : A
 -- an effect's answer is acceptance
 pub effect-accepted : (machine : Machine) (kind : Kind) (thread place value : ℕ) →
     isAccepted (effect machine kind thread place value .answer) ≡ true
-unfolding effect loadEffect logEffect storeEffect acquireEffect logReleaseEffect releaseEffect flushEffect
+unfolding effect loadEffect firstLogEffect storeEffect acquireEffect logReleaseEffect releaseEffect flushEffect
     flushLogEffect fenceEffect pruneEffect evictEffect evictLogEffect
 effect-accepted machine LOAD thread place value = refl
-effect-accepted machine LOG thread place value = refl
+effect-accepted machine LOG thread place value =
+    log-cases (λ stepped. isAccepted (stepped .answer) ≡ true) machine thread place (λ isNowhere. refl) (λ number isAt. refl)
 effect-accepted machine STORE thread place value = refl
 effect-accepted machine ACQUIRE thread place value = refl
 effect-accepted machine LOGREL thread place value = refl

@@ -7,6 +7,7 @@ pub mod Locks
 pub mod Leads
 pub mod Places
 pub mod Times
+pub mod EntrySteps
 -- races
 pub mod Ordered
 pub mod Epochs
@@ -17,6 +18,7 @@ pub mod Holding
 pub mod Follows
 pub mod HistoryRuns
 pub mod RaceTests
+pub mod Repeats
 pub mod StepsFollow
 pub mod RaceLaw
 -- cells
@@ -28,6 +30,9 @@ pub mod Regions
 pub mod RegionsAppend
 pub mod RegionsPrune
 pub mod Writes
+-- refusal 16
+pub mod ReleaseSteps
+pub mod PrunedCounts
 -- all together
 pub mod LogViews
 pub mod MachineInvariant

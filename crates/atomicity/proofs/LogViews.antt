@@ -3,7 +3,7 @@ use Prim.Native.Nat.{ℕ, suc, _≤_, _<_}
 use native.Mathlib.Decide.{ℕ-discrete}
 use native.Mathlib.Omega.{arith}
 use mathlib.Core.Path.{_≡_, refl, sym, ap, _∙_, subst}
-use mathlib.Core.Bool.{cond}
+use mathlib.Core.Bool.{Bool, true, cond}
 use mathlib.Core.List.{List}
 use mathlib.Core.Logic.{by-cases}
 use lib.ListN.{length, getD, set}
@@ -33,11 +33,12 @@ setAt-other function number value other differs = rw (ne-eqb other number differ
 abbrev pub logAt : List Log → ℕ → Log
 logAt logs thread = getD logs thread noLog
 
--- the logs' numbers, beside what the entries said and when they were made
-abbrev pub viewOf : (ℕ → ℕ) → List Log → (ℕ → ℕ → Event) → (ℕ → ℕ → ℕ) → Entries
-viewOf before logs event time = record {
+-- the logs' numbers, beside what the entries said, when they were made and by which steps
+abbrev pub viewOf : (ℕ → ℕ) → List Log → (ℕ → ℕ → Event) → (ℕ → ℕ → ℕ) → (ℕ → Bool) → Entries
+viewOf before logs event time made = record {
   event = event;
   time = time;
+  made = made;
   before = before;
   next = λ thread. logAt logs thread .tail .next .0;
   head = λ thread. logAt logs thread .head .0;
@@ -62,11 +63,11 @@ by-log P logs thread log inRange self others other =
     (λ differs. rw (log-other logs thread other log differs) (others other differs))
 
 -- a change of a log that makes no entry
-pub keep-view : (before : ℕ → ℕ) (logs : List Log) (event : ℕ → ℕ → Event) (time : ℕ → ℕ → ℕ) (now thread : ℕ) (log : Log) →
-    thread < length logs → log .tail .next .0 ≡ logAt logs thread .tail .next .0 →
+pub keep-view : (before : ℕ → ℕ) (logs : List Log) (event : ℕ → ℕ → Event) (time : ℕ → ℕ → ℕ) (made : ℕ → Bool)
+    (now thread : ℕ) (log : Log) → thread < length logs → log .tail .next .0 ≡ logAt logs thread .tail .next .0 →
     logAt logs thread .head .0 ≤ log .head .0 → logAt logs thread .tail .durable .0 ≤ log .tail .durable .0 →
-    Keeps (viewOf before logs event time) (viewOf before (set logs thread log) event time) now
-keep-view before logs event time now thread log inRange sameNext headGrows durableGrows =
+    Keeps (viewOf before logs event time made) (viewOf before (set logs thread log) event time made) now
+keep-view before logs event time made now thread log inRange sameNext headGrows durableGrows =
     let next-kept =
     by-log (λ other log. log .tail .next .0 ≡ logAt logs other .tail .next .0) logs thread log inRange sameNext (λ other differs. refl) in
     record {
@@ -74,6 +75,7 @@ keep-view before logs event time now thread log inRange sameNext headGrows durab
         still = λ other number made. record { since = made .since; below = rw (next-kept other) (made .below) };
         saysSame = λ other number made. refl;
         timeSame = λ other number made. refl;
+        madeSame = λ place differs. refl;
         beforeSame = refl;
         headGrows =
             by-log (λ other log. logAt logs other .head .0 ≤ log .head .0) logs thread log inRange headGrows (λ other differs. omega arith);
@@ -82,6 +84,7 @@ keep-view before logs event time now thread log inRange sameNext headGrows durab
             durableGrows (λ other differs. omega arith);
       };
       nextSame = next-kept;
+      madeStill = refl;
     }
 
 -- nothing of the logs changes
@@ -91,11 +94,13 @@ same-view entries now = record {
     still = λ other number made. made;
     saysSame = λ other number made. refl;
     timeSame = λ other number made. refl;
+    madeSame = λ place differs. refl;
     beforeSame = refl;
     headGrows = λ other. omega arith;
     durableGrows = λ other. omega arith;
   };
   nextSame = λ other. refl;
+  madeStill = refl;
 }
 
 -- what the entries said and when they were made, with one more at a thread's next LSN
@@ -105,8 +110,8 @@ eventsThen logs event thread said = setAt event thread (withEvent (event thread)
 abbrev pub timesThen : List Log → (ℕ → ℕ → ℕ) → ℕ → ℕ → ℕ → ℕ → ℕ
 timesThen logs time thread now = setAt time thread (setAt (time thread) (logAt logs thread .tail .next .0) now)
 
-module _ (before : ℕ → ℕ) (logs : List Log) (event : ℕ → ℕ → Event) (time : ℕ → ℕ → ℕ) (now thread : ℕ) (said : Event)
-    (inRange : thread < length logs) where
+module _ (before : ℕ → ℕ) (logs : List Log) (event : ℕ → ℕ → Event) (time : ℕ → ℕ → ℕ) (made : ℕ → Bool)
+    (now thread : ℕ) (said : Event) (inRange : thread < length logs) where
   at-self : eventsThen logs event thread said thread ≡ withEvent (event thread) (logAt logs thread .tail .next .0) said
   at-self = setAt-here event thread (withEvent (event thread) (logAt logs thread .tail .next .0) said)
 
@@ -141,9 +146,9 @@ module _ (before : ℕ → ℕ) (logs : List Log) (event : ℕ → ℕ → Event
 
   -- an append is one entry more
   pub append-view : before thread < logAt logs thread .tail .next .0 →
-      Appends (viewOf before logs event time)
+      Appends (viewOf before logs event time made)
       (viewOf before (set logs thread (enterOf (logAt logs thread) said)) (eventsThen logs event thread said)
-      (timesThen logs time thread now))
+      (timesThen logs time thread now) (setAt made now true))
       now thread said
   append-view since =
       let log = enterOf (logAt logs thread) said in
@@ -165,6 +170,7 @@ module _ (before : ℕ → ℕ) (logs : List Log) (event : ℕ → ℕ → Event
               let grew = next-grows other in let below = made .below in record { since = made .since; below = omega arith };
           saysSame = λ other number made. older-says other number (made .below);
           timeSame = λ other number made. older-time other number (made .below);
+          madeSame = setAt-other made now true;
           beforeSame = refl;
           headGrows = λ other. let same = head-same other in omega arith;
           durableGrows = λ other. let same = durable-same other in omega arith;
@@ -177,6 +183,7 @@ module _ (before : ℕ → ℕ) (logs : List Log) (event : ℕ → ℕ → Event
         timeNew =
             ap (λ (f : ℕ → ℕ). f (logAt logs thread .tail .next .0)) time-self ∙
             setAt-here (time thread) (logAt logs thread .tail .next .0) now;
+        madeNew = setAt-here made now true;
         nextSince = since;
         headSame = head-same;
         durableSame = durable-same;

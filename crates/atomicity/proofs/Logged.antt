@@ -4,16 +4,18 @@ use Prim.Native.Nat.{ℕ, suc, _≤_, _<_}
 use native.Mathlib.Decide.{decLt, ℕ-discrete}
 use native.Mathlib.Omega.{arith}
 use mathlib.Core.Path.{_≡_, sym, ap, _∙_}
+use mathlib.Core.Bool.{Bool, true}
 use mathlib.Core.Logic.{_⊎_, inl, inr, ⊎-elim, by-cases}
 use Rattle.undo.specs.Events.{syncCount}
 use Rattle.undo.specs.declared.Event.{Event}
 use Rattle.undo.specs.declared.Event.the-variants.{Acquire, Release}
 
--- the entries: what each says and the place of its step in the history, by thread and LSN; the last LSN given before the history began, the
--- next LSN, the head and the last durable LSN of each thread
+-- the entries: what each says and the place of its step in the history, by thread and LSN; which places of the history have a step that
+-- made an entry; the last LSN given before the history began, the next LSN, the head and the last durable LSN of each thread
 pub record Entries : Type 0 where
   pub event : ℕ → ℕ → Event
   pub time : ℕ → ℕ → ℕ
+  pub made : ℕ → Bool
   pub before : ℕ → ℕ
   pub next : ℕ → ℕ
   pub head : ℕ → ℕ
@@ -41,6 +43,7 @@ pub record Grows (old new : Entries) (now : ℕ) : Type 0 where
   pub still : (thread number : ℕ) → Made old thread number → Made new thread number
   pub saysSame : (thread number : ℕ) → Made old thread number → new .event thread number ≡ old .event thread number
   pub timeSame : (thread number : ℕ) → Made old thread number → new .time thread number ≡ old .time thread number
+  pub madeSame : (place : ℕ) → (place ≡ now → ⊥) → new .made place ≡ old .made place
   pub beforeSame : new .before ≡ old .before
   pub headGrows : (thread : ℕ) → old .head thread ≤ new .head thread
   pub durableGrows : (thread : ℕ) → old .durable thread ≤ new .durable thread
@@ -49,6 +52,7 @@ pub record Grows (old new : Entries) (now : ℕ) : Type 0 where
 pub record Keeps (old new : Entries) (now : ℕ) : Type 0 where
   pub grows : Grows old new now
   pub nextSame : (thread : ℕ) → new .next thread ≡ old .next thread
+  pub madeStill : new .made now ≡ old .made now
 
 -- a step at this place of the history that makes one entry more, of this thread
 pub record Appends (old new : Entries) (now thread : ℕ) (event : Event) : Type 0 where
@@ -57,6 +61,7 @@ pub record Appends (old new : Entries) (now thread : ℕ) (event : Event) : Type
   pub nextOther : (other : ℕ) → (other ≡ thread → ⊥) → new .next other ≡ old .next other
   pub saysNew : new .event thread (old .next thread) ≡ event
   pub timeNew : new .time thread (old .next thread) ≡ now
+  pub madeNew : new .made now ≡ true
   pub nextSince : old .before thread < old .next thread
   pub headSame : (other : ℕ) → new .head other ≡ old .head other
   pub durableSame : (other : ℕ) → new .durable other ≡ old .durable other

@@ -3,7 +3,7 @@ use Prim.Native.Nat.{ℕ, suc, _+_, _-_, _≤_, _<_}
 use native.Mathlib.Decide.{decLt, ℕ-discrete}
 use native.Mathlib.Omega.{arith}
 use mathlib.Core.Path.{_≡_, refl, sym, ap, _∙_, subst}
-use mathlib.Core.Bool.{Bool, true, false, cond, not, _&&_, and-false, true≢false}
+use mathlib.Core.Bool.{Bool, true, false, cond, not, _&&_, true≢false}
 use mathlib.Core.List.{List}
 use mathlib.Core.Logic.{_⊎_, inl, inr, ⊎-elim, by-cases}
 use lib.ListN.{length, getD, set, length-set}
@@ -40,6 +40,7 @@ use Rattle.atomicity.proofs.Cells.{Version, Chain, linked, In, here, th
 use Rattle.atomicity.proofs.HistoryRuns.{tookStep}
 use Rattle.atomicity.proofs.Places.{places-step}
 use Rattle.atomicity.proofs.RegionsPrune.{PruneRegions}
+use Rattle.atomicity.proofs.PrunedCounts.{PrunedOne, counted-longer, counted-prune}
 use Rattle.atomicity.proofs.Times.{Formed, release-formed, times-keep}
 use Rattle.atomicity.proofs.LogViews.{logAt, by-log, keep-view, log-same, log-other}
 use Rattle.atomicity.proofs.MachineInvariant.{Beginning, Ghost, MachineInvariant, HeadAt, at-start, after-release, at-acquire}
@@ -145,7 +146,7 @@ module _ {start : Beginning} {machine : Machine} {history : List Fed} {ghost : G
   pub moved-keeps : Keeps (entriesOf start machine ghost) (entriesOf start moved ghost) (length history)
   unfolding dropOf
   moved-keeps =
-      keep-view (start .before) (machine .logs) (ghost .event) (ghost .time) (length history) thread (dropOf log size)
+      keep-view (start .before) (machine .logs) (ghost .event) (ghost .time) (ghost .made) (length history) thread (dropOf log size)
       inLogs refl (omega arith) (omega arith)
 
   head-other : (other : ℕ) → (other ≡ thread → ⊥) → logAt (moved .logs) other .head .0 ≡ logAt (machine .logs) other .head .0
@@ -305,6 +306,9 @@ module _ {start : Beginning} {machine : Machine} {history : List Fed} {ghost : G
         EndsInRelease (entriesOf start machine ghost) thread (log .head .0 + size - 1) lock count (locksOf machine)
         (locksOf (withLocks locks))) ⊎
         ((lock : ℕ) → getD locks lock noLock .pruned .0 ≡ lockOf machine lock .pruned .0)
+    prunedOne : (lock : ℕ) →
+        PrunedOne (entriesOf start machine ghost) thread (log .head .0 + size - 1) lock (lockOf machine lock .pruned .0)
+        (getD locks lock noLock .pruned .0)
 
   prune-machine : (place value : ℕ) (locks : List LockState) → PrunedLocks locks →
       MachineInvariant start (withLocks locks) (andThen history (tookStep PRUNE thread place value)) ghost
@@ -352,23 +356,38 @@ module _ {start : Beginning} {machine : Machine} {history : List Fed} {ghost : G
             (quiet-place
             (record {
               thread = λ isAccepted. asked .inThread;
-              makesNone = λ other. and-false (eqb thread other);
               noRelease = λ isAccepted isKind. omega arith;
-              noAcquire = λ isAccepted isKind. omega arith;
+              noBoundary = λ isAccepted isKind. ⊎-elim (λ isAcquire. omega arith) (λ isLogrel. omega arith) isKind;
+              logged = λ isAccepted isKind. absurd (omega arith);
             })
             moved-keeps
-            (pruned .countSame))
+            (pruned .countSame)
+            (machineHolds .places))
             (machineHolds .places);
         times = times-keep (tookStep PRUNE thread place value) moved-keeps (machineHolds .times);
+        counted =
+            counted-longer (tookStep PRUNE thread place value) (moved-keeps .grows)
+            (λ lock releases. let isKind = releases .isKind in absurd (omega arith))
+            (counted-prune prune-regions (machineHolds .places) (machineHolds .times) (pruned .prunedOne) (machineHolds .counted));
       }
 
-  -- the locks as they were
-  same-pruned : PrunedLocks (machine .locks)
-  same-pruned = record {
+  -- what the region's last entry says
+  last-says : liveEvent log (size - 1) ≡ ghost .event thread (log .head .0 + size - 1)
+  last-says =
+      let some-entry = not-empty in
+      let within = within-log in
+      let since = machineHolds .begins thread (asked .inThread) in
+      live-event log (ghost .event thread) holds (size - 1) (log .head .0 + size - 1) (omega arith) (omega arith)
+
+  -- the locks as they were, where the region ends in no RELEASE
+  same-pruned : isRelease (liveEvent log (size - 1)) ≡ false → PrunedLocks (machine .locks)
+  same-pruned noRelease = record {
     sized = machineHolds .sized .locks;
     holderSame = λ lock. refl;
     countSame = λ lock. refl;
     cases = inr (λ lock. refl);
+    prunedOne = λ lock.
+        inr ((λ count ends. true≢false (sym (ap isRelease ends) ∙ (sym (ap isRelease last-says) ∙ noRelease))), refl);
   }
 
   -- one more RELEASE of this lock is pruned
@@ -382,11 +401,7 @@ module _ {start : Beginning} {machine : Machine} {history : List Fed} {ghost : G
   one-pruned : (lock : ℕ) (count : SyncCount) → liveEvent log (size - 1) ≡ Release lock count →
       PrunedLocks (set (machine .locks) lock (onePruned lock))
   one-pruned lock count said =
-      let some-entry = not-empty in
-      let since = machineHolds .begins thread (asked .inThread) in
-      let within = within-log in
-      let says : ghost .event thread (log .head .0 + size - 1) ≡ Release lock count =
-      sym (live-event log (ghost .event thread) holds (size - 1) (log .head .0 + size - 1) (omega arith) (omega arith)) ∙ said in
+      let says : ghost .event thread (log .head .0 + size - 1) ≡ Release lock count = sym last-says ∙ said in
       let inRange : lock < lockCount =
       release-formed (subst Formed says (machineHolds .times .formed thread (log .head .0 + size - 1) last-made)) in
       let inLocks : lock < length (machine .locks) = rw (machineHolds .sized .locks) inRange in
@@ -413,13 +428,18 @@ module _ {start : Beginning} {machine : Machine} {history : List Fed} {ghost : G
                 (λ other differs _. refl);
           },
         );
+        prunedOne =
+            by-lock (λ found state. PrunedOne (entriesOf start machine ghost) thread (log .head .0 + size - 1) found
+            (lockOf machine found .pruned .0) (state .pruned .0))
+            (machine .locks) lock (onePruned lock) inLocks (inl (count, says, omega arith))
+            (λ found differs. inr ((λ larger ends. differs (cc)), refl));
       }
 
   by-last : (place value : ℕ) (last : Event) → liveEvent log (size - 1) ≡ last →
       MachineInvariant start (countPruned moved last) (andThen history (tookStep PRUNE thread place value)) ghost
-  by-last place value Empty said = prune-machine place value (machine .locks) same-pruned
-  by-last place value (Store cell old) said = prune-machine place value (machine .locks) same-pruned
-  by-last place value (Acquire lock count) said = prune-machine place value (machine .locks) same-pruned
+  by-last place value Empty said = prune-machine place value (machine .locks) (same-pruned (ap isRelease said))
+  by-last place value (Store cell old) said = prune-machine place value (machine .locks) (same-pruned (ap isRelease said))
+  by-last place value (Acquire lock count) said = prune-machine place value (machine .locks) (same-pruned (ap isRelease said))
   by-last place value (Release lock count) said =
       prune-machine place value (set (machine .locks) lock (onePruned lock)) (one-pruned lock count said)
 

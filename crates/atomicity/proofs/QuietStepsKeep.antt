@@ -1,11 +1,12 @@
 -- The steps that make no entry and move no head keep what holds of a machine and its history: refused steps, LOAD, STORE, FLUSH, FLUSHLOG,
--- FENCE, EVICT and EVICTLOG.
-use Prim.Native.Nat.{ℕ, _-_, _≤_, _<_}
+-- FENCE, EVICT, EVICTLOG, and LOG of a cell that has an entry already.
+use Prim.Native.Nat.{ℕ, suc, _-_, _≤_, _<_}
+use native.Mathlib.Decide.{ℕ-discrete}
 use native.Mathlib.Omega.{arith}
-use mathlib.Core.Path.{_≡_, refl, sym, _∙_}
-use mathlib.Core.Bool.{Bool, true, false, cond, _||_, and-false, true≢false}
+use mathlib.Core.Path.{_≡_, refl, sym, ap, _∙_, subst}
+use mathlib.Core.Bool.{Bool, true, false, cond, true≢false}
 use mathlib.Core.List.{List}
-use mathlib.Core.Logic.{_⊎_, inl, inr, ⊎-elim}
+use mathlib.Core.Logic.{_⊎_, inl, inr, ⊎-elim, by-cases, _≢_}
 use lib.ListN.{length, set}
 use lib.Seq.{getD-set-same, getD-set-other}
 use lib.Dec.{eqb}
@@ -15,8 +16,14 @@ use Rattle.cache.specs.Cache.{cachedAt, persistedAt, lineOf, isPending, storeOf
 use Rattle.cache.specs.declared.Cache.{Cache}
 use Rattle.cache.proofs.CacheLaws as CacheLaws
 use Rattle.log.specs.Entries.{flushLogOf, fenceLogOf, evictSlotOf}
+use Rattle.ring.specs.Ring.{lsn}
+use Rattle.ring.specs.declared.Lsn.{Lsn}
 use Rattle.tail.specs.Tail.{flushedTail, fencedTail}
-use Rattle.undo.specs.declared.Event.the-variants.{Store}
+use Rattle.undo.specs.Events.{kindOf}
+use Rattle.undo.specs.Regions as Regions
+use Rattle.undo.specs.Regions.{loggedOf}
+use Rattle.undo.specs.declared.Event.the-variants.{Store, Release}
+use Rattle.undo.specs.declared.Found.the-variants.{At}
 use Rattle.log.specs.declared.Log.{Log}
 use Rattle.undo.proofs.UndoInvariant.{UndoHolds, flush-holds, fence-holds, evict-holds}
 use Rattle.undo.proofs.LoggedLaws.{logged-at}
@@ -24,13 +31,14 @@ use Rattle.accesses.specs.Accesses.{loadedOf}
 use Rattle.machine.specs.Effects.{loadEffect, storeEffect, flushEffect, flushLogEffect, fenceEffect, evictEffect, evictLogEffect, effect}
 use Rattle.machine.specs.Holds.{withLog, withCache, withAccesses}
 use Rattle.accesses.specs.declared.Accesses.{Accesses}
-use Rattle.kinds.specs.Kinds.{LOAD, STORE, FLUSH, FLUSHLOG, FENCE, EVICT, EVICTLOG}
+use Rattle.kinds.specs.Kinds.{LOAD, LOG, STORE, FLUSH, FLUSHLOG, FENCE, EVICT, EVICTLOG}
 use Rattle.machine.specs.declared.Machine.{Machine}
-use Rattle.machine.proofs.AcceptedMeans.{load-asked, store-asked, flush-asked, flush-log-asked, fence-asked, evict-asked, evict-log-asked}
+use Rattle.machine.proofs.AcceptedMeans.{load-asked, log-asked, store-asked, flush-asked, flush-log-asked, fence-asked}
+use Rattle.machine.proofs.AcceptedMeans.{evict-asked, evict-log-asked}
 use Rattle.machine.proofs.Sizes.{Sized, effect-sized}
 use Rattle.machine.proofs.StepLaws.{testsOf}
 use Rattle.atomicity.specs.History.{Fed}
-use Rattle.atomicity.proofs.Logged.{Is, Keeps}
+use Rattle.atomicity.proofs.Logged.{Entries, Made, Is, Keeps}
 use Rattle.atomicity.proofs.Locks.{SameLocks}
 use Rattle.atomicity.proofs.Cells.{CellsHold, NoBoundaryAfter, made-equal, unchanged, cells-keep, restored, StoresCell, cells-store}
 use Rattle.atomicity.proofs.HistoryRuns.{tookStep}
@@ -38,25 +46,33 @@ use Rattle.atomicity.proofs.LogViews.{setAt, setAt-here, setAt-other, l
 use Rattle.atomicity.proofs.MachineInvariant.{Beginning, Ghost, MachineInvariant, Quiet, entriesOf, locksOf, contentsOf}
 use Rattle.atomicity.proofs.MachineInvariant.{machine-quiet}
 use Rattle.atomicity.proofs.Ordered.{andThen}
+use Rattle.atomicity.proofs.Places.{madeBy, made-grows}
+use Rattle.atomicity.proofs.Repeats.{LoggedNow}
 
 -- a refused step is quiet
-refused-quiet : (fed : Fed) → fed .accepted ≡ false → Quiet fed
+refused-quiet : {history : List Fed} {entries : Entries} (fed : Fed) → fed .accepted ≡ false → Quiet history entries fed
 refused-quiet fed isRefused = record {
   thread = λ isAccepted. absurd (true≢false (sym isAccepted ∙ isRefused));
-  makesNone = λ thread. rw isRefused;
   noRelease = λ isAccepted isKind. true≢false (sym isAccepted ∙ isRefused);
-  noAcquire = λ isAccepted isKind. true≢false (sym isAccepted ∙ isRefused);
+  noBoundary = λ isAccepted isKind. true≢false (sym isAccepted ∙ isRefused);
+  logged = λ isAccepted isKind. absurd (true≢false (sym isAccepted ∙ isRefused));
 }
 
--- an accepted step of a kind that makes no entry and is no RELEASE
-quiet-step : (kind thread place value : ℕ) → (eqb kind 2 || (eqb kind 4 || eqb kind 5)) ≡ false → (kind ≡ 6 → ⊥) →
-    (kind ≡ 4 → ⊥) → thread < threadCount →
-    Quiet (record { kind = kind; thread = thread; place = place; value = value; accepted = true })
-quiet-step kind thread place value noEntry noRelease noAcquire inThread = record {
+-- a kind that makes no entry and is no RELEASE
+record Aside (kind : ℕ) : Type 0 where
+  noLog : kind ≢ 2
+  noAcquire : kind ≢ 4
+  noLogrel : kind ≢ 5
+  noRelease : kind ≢ 6
+
+-- an accepted step of such a kind
+quiet-step : {history : List Fed} {entries : Entries} (kind thread place value : ℕ) → Aside kind → thread < threadCount →
+    Quiet history entries (record { kind = kind; thread = thread; place = place; value = value; accepted = true })
+quiet-step kind thread place value aside inThread = record {
   thread = λ isAccepted. inThread;
-  makesNone = λ other. rw noEntry (and-false (eqb thread other));
-  noRelease = λ isAccepted isKind. noRelease isKind;
-  noAcquire = λ isAccepted isKind. noAcquire isKind;
+  noRelease = λ isAccepted isKind. aside .noRelease isKind;
+  noBoundary = λ isAccepted isKind. ⊎-elim (aside .noAcquire) (aside .noLogrel) isKind;
+  logged = λ isAccepted isKind. absurd (aside .noLog isKind);
 }
 
 -- entries are only kept, and so are the heads
@@ -72,7 +88,7 @@ pub log-stays : (start : Beginning) (machine after : Machine) (ghost : Ghost) (n
     logAt (machine .logs) thread .tail .durable .0 ≤ log .tail .durable .0 → EntriesStay start machine after ghost now
 log-stays start machine after ghost now thread log isSet inLogs nextSame headIs durableGrows = record {
   keeps =
-      rw isSet (keep-view (start .before) (machine .logs) (ghost .event) (ghost .time) now thread log inLogs nextSame
+      rw isSet (keep-view (start .before) (machine .logs) (ghost .event) (ghost .time) (ghost .made) now thread log inLogs nextSame
       (omega (arith, headIs)) durableGrows);
   headSame =
       rw isSet (by-log (λ other log. log .head .0 ≡ logAt (machine .logs) other .head .0) (machine .logs) thread log
@@ -94,16 +110,18 @@ module _ {start : Beginning} {machine : Machine} {history : List Fed} {ghost : G
 
   -- a step that leaves the logs and the locks alone: what is left to show is of the cache and the cells
   machine-aside : (cache : Cache) (accesses : Accesses) (fed : Fed) (next : Ghost) → next .event ≡ ghost .event →
-      next .time ≡ ghost .time → Quiet fed → Sized (withAccesses (withCache machine cache) accesses) →
+      next .time ≡ ghost .time → next .made ≡ ghost .made → Quiet history (entriesOf start machine ghost) fed →
+      Sized (withAccesses (withCache machine cache) accesses) →
       CacheLaws.Sized cache → CacheLaws.DurableKept cache →
       CellsHold (entriesOf start machine ghost) (contentsOf start cache) (next .versions) →
       MachineInvariant start (withAccesses (withCache machine cache) accesses) (andThen history fed) next
-  machine-aside cache accesses fed next sameEvent sameTime quiet sized cacheSized durableKept cells =
+  machine-aside cache accesses fed next sameEvent sameTime sameMade quiet sized cacheSized durableKept cells =
       machine-quiet
       (record {
         quiet = quiet;
         sameEvent = sameEvent;
         sameTime = sameTime;
+        sameMade = sameMade;
         sized = sized;
         logs = machineHolds .logs;
         cacheSized = cacheSized;
@@ -118,7 +136,7 @@ module _ {start : Beginning} {machine : Machine} {history : List Fed} {ghost : G
 
   pub machine-refused : (fed : Fed) → fed .accepted ≡ false → MachineInvariant start machine (andThen history fed) ghost
   machine-refused fed isRefused =
-      machine-aside (machine .cache) (machine .accesses) fed ghost refl refl (refused-quiet fed isRefused)
+      machine-aside (machine .cache) (machine .accesses) fed ghost refl refl refl (refused-quiet fed isRefused)
       (machineHolds .sized) (machineHolds .cacheSized) (machineHolds .durableKept) (machineHolds .cells)
 
   module _ (thread place value : ℕ) where
@@ -133,7 +151,8 @@ module _ {start : Beginning} {machine : Machine} {history : List Fed} {ghost : G
         ghost
         refl
         refl
-        (quiet-step 1 thread place value refl (λ isKind. omega arith) (λ isKind. omega arith)
+        refl
+        (quiet-step 1 thread place value (omega arith)
         (load-asked machine thread place value fails .inThread))
         (effect-sized machine (machineHolds .sized) LOAD thread place value fails)
         (machineHolds .cacheSized)
@@ -171,7 +190,8 @@ module _ {start : Beginning} {machine : Machine} {history : List Fed} {ghost : G
         ghost
         refl
         refl
-        (quiet-step 7 thread place value refl (λ isKind. omega arith) (λ isKind. omega arith)
+        refl
+        (quiet-step 7 thread place value (omega arith)
         (flush-asked machine thread place value fails .inThread))
         (effect-sized machine (machineHolds .sized) FLUSH thread place value fails)
         (CacheLaws.flushOf-sized (machine .cache) (machineHolds .cacheSized) thread place)
@@ -199,7 +219,8 @@ module _ {start : Beginning} {machine : Machine} {history : List Fed} {ghost : G
         ghost
         refl
         refl
-        (quiet-step 11 thread place value refl (λ isKind. omega arith) (λ isKind. omega arith)
+        refl
+        (quiet-step 11 thread place value (omega arith)
         (evict-asked machine thread place value fails .0))
         (effect-sized machine (machineHolds .sized) EVICT thread place value fails)
         (CacheLaws.evictOf-sized (machine .cache) (machineHolds .cacheSized) place)
@@ -227,7 +248,7 @@ module _ {start : Beginning} {machine : Machine} {history : List Fed} {ghost : G
 
       keeps-then : Keeps (entriesOf start machine ghost) (entriesOf start (withLog machine thread log) ghost) (length history)
       keeps-then =
-          keep-view (start .before) (machine .logs) (ghost .event) (ghost .time) (length history) thread log inLogs
+          keep-view (start .before) (machine .logs) (ghost .event) (ghost .time) (ghost .made) (length history) thread log inLogs
           nextSame (omega (arith, headIs)) durableGrows
 
       heads-then : (other : ℕ) → logAt (set (machine .logs) thread log) other .head .0 ≡ logAt (machine .logs) other .head .0
@@ -245,7 +266,8 @@ module _ {start : Beginning} {machine : Machine} {history : List Fed} {ghost : G
       }
 
       -- the step with this log and this cache
-      quiet-log : (cache : Cache) (fed : Fed) → Quiet fed → Sized (withLog (withCache machine cache) thread log) →
+      quiet-log : (cache : Cache) (fed : Fed) → Quiet history (entriesOf start machine ghost) fed →
+          Sized (withLog (withCache machine cache) thread log) →
           CacheLaws.Sized cache → CacheLaws.DurableKept cache →
           ((cell : ℕ) → cachedAt cache cell ≡ cachedAt (machine .cache) cell) →
           ((cell : ℕ) →
@@ -257,6 +279,7 @@ module _ {start : Beginning} {machine : Machine} {history : List Fed} {ghost : G
             quiet = quiet;
             sameEvent = refl;
             sameTime = refl;
+            sameMade = refl;
             sized = sized;
             logs = logs-then;
             cacheSized = cacheSized;
@@ -286,7 +309,7 @@ module _ {start : Beginning} {machine : Machine} {history : List Fed} {ghost : G
         refl
         (machine .cache)
         (tookStep FLUSHLOG thread place value)
-        (quiet-step 8 thread place value refl (λ isKind. omega arith) (λ isKind. omega arith) inRange)
+        (quiet-step 8 thread place value (omega arith) inRange)
         (effect-sized machine (machineHolds .sized) FLUSHLOG thread place value fails)
         (machineHolds .cacheSized)
         (machineHolds .durableKept)
@@ -311,7 +334,7 @@ module _ {start : Beginning} {machine : Machine} {history : List Fed} {ghost : G
         refl
         (fenceOf (machine .cache) thread)
         (tookStep FENCE thread place value)
-        (quiet-step 9 thread place value refl (λ isKind. omega arith) (λ isKind. omega arith) inRange)
+        (quiet-step 9 thread place value (omega arith) inRange)
         (effect-sized machine (machineHolds .sized) FENCE thread place value fails)
         (CacheLaws.fenceOf-sized (machine .cache) (machineHolds .cacheSized) thread)
         (CacheLaws.fenceOf-kept (machine .cache) (machineHolds .cacheSized) thread (machineHolds .durableKept))
@@ -337,7 +360,7 @@ module _ {start : Beginning} {machine : Machine} {history : List Fed} {ghost : G
         refl
         (machine .cache)
         (tookStep EVICTLOG thread place value)
-        (quiet-step 12 thread place value refl (λ isKind. omega arith) (λ isKind. omega arith) (asked .inThread))
+        (quiet-step 12 thread place value (omega arith) (asked .inThread))
         (effect-sized machine (machineHolds .sized) EVICTLOG thread place value fails)
         (machineHolds .cacheSized)
         (machineHolds .durableKept)
@@ -349,8 +372,24 @@ module _ {start : Beginning} {machine : Machine} {history : List Fed} {ghost : G
     storedVersions = record {
       event = ghost .event;
       time = ghost .time;
+      made = ghost .made;
       versions = setAt (ghost .versions) place (restored value (ghost .versions place));
     }
+
+    -- the cell's entry in the thread's current region, where it is found
+    pub logged-entry : thread < threadCount → (number : Lsn) → loggedOf (logAt (machine .logs) thread) place ≡ At number →
+        (old : ℕ) × Is (entriesOf start machine ghost) thread (number .0) (Store place old) ×
+        NoBoundaryAfter (entriesOf start machine ghost) thread (number .0) × (logAt (machine .logs) thread .head .0 ≤ number .0)
+    logged-entry inThread number isAt =
+        let holds = machineHolds .logs thread inThread in
+        let found = logged-at (logAt (machine .logs) thread) (ghost .event thread) holds place (number .0) isAt in
+        let since = machineHolds .begins thread inThread in
+        let from = found .loggedFrom in (
+          found .old,
+          record { made = record { since = omega arith; below = found .loggedTo }; says = found .storeIs },
+          (λ later after made. (found .noAcquireAfter later after (made .below), found .noReleaseAfter later after (made .below))),
+          from,
+        )
 
     -- the cell's entry in the thread's current region, which STORE asks for
     pub stored-entry : AllFail (testsOf machine STORE thread place value) →
@@ -359,17 +398,74 @@ module _ {start : Beginning} {machine : Machine} {history : List Fed} {ghost : G
         (logAt (machine .logs) thread .head .0 ≤ number) × (number ≤ logAt (machine .logs) thread .tail .durable .0)
     stored-entry fails =
         let asked = store-asked machine thread place value fails in
-        let holds = machineHolds .logs thread (asked .inThread) in
-        let found = logged-at (logAt (machine .logs) thread) (ghost .event thread) holds place (asked .number) (asked .isLogged) in
-        let since = machineHolds .begins thread (asked .inThread) in
-        let from = found .loggedFrom in (
-          asked .number,
-          found .old,
-          record { made = record { since = omega arith; below = found .loggedTo }; says = found .storeIs },
-          (λ later after made. (found .noAcquireAfter later after (made .below), found .noReleaseAfter later after (made .below))),
-          from,
-          asked .isDurable,
-        )
+        let found = logged-entry (asked .inThread) (lsn (asked .number)) (asked .isLogged) in
+        (asked .number, found .0, found .1, found .2, found .3, asked .isDurable)
+
+    -- the thread took a LOG that made that entry, and no RELEASE since: that would stand at a RELEASE entry of the region
+    pub logged-now : thread < threadCount → (number : Lsn) → loggedOf (logAt (machine .logs) thread) place ≡ At number →
+        LoggedNow history thread place
+    logged-now inThread number isAt =
+        let entries = entriesOf start machine ghost in
+        let found = logged-entry inThread number isAt in
+        let step = machineHolds .times .entryStep (found .1) in
+        let at = ghost .time thread (number .0) in
+        record {
+          place = at;
+          isLog = record { isAccepted = step .isAccepted; isSort = (step .isKind, step .isPlace) };
+          isThread = step .isThread;
+          noRelease = λ later from is isThread.
+              let release = machineHolds .places .releaseAt is in
+              let last = madeBy entries history thread (suc later) in
+              let isRelease : Is entries thread last (Release _ _) = rw isThread at (release .1) in
+              let stood : madeBy entries history thread (suc at) ≡ number .0 = rw (step .isThread) at (step .isLast) in
+              let grew = made-grows entries history thread (suc at) (suc later) (omega arith) in
+              by-cases
+              (ℕ-discrete (number .0) last)
+              (λ same.
+              let store = subst (λ (n : ℕ). ghost .event thread n ≡ Store place (found .0)) same (found .1 .says) in
+              omega (arith, ap kindOf (sym (isRelease .says) ∙ store)))
+              (λ differs.
+              true≢false
+              (sym (ap Regions.isRelease (isRelease .says)) ∙ found .2 last (omega (arith, differs)) (isRelease .made) .1));
+        }
+
+    -- a LOG of a cell that the current region has an entry of makes none: it stands in that region, at or after that entry
+    pub machine-log-again : AllFail (testsOf machine LOG thread place value) → (number : Lsn) →
+        loggedOf (logAt (machine .logs) thread) place ≡ At number →
+        MachineInvariant start machine (andThen history (tookStep LOG thread place value)) ghost
+    machine-log-again fails number isAt =
+        let inThread = log-asked machine thread place value fails .inThread in
+        let found = logged-entry inThread number isAt in
+        let counted = machineHolds .places .nextIs thread inThread in
+        let since = found .1 .made .since in
+        let below = found .1 .made .below in
+        let isLast : Made (entriesOf start machine ghost) thread (madeBy (entriesOf start machine ghost) history thread (length history)) =
+        record { since = omega arith; below = omega arith } in
+        machine-aside
+        (machine .cache)
+        (machine .accesses)
+        (tookStep LOG thread place value)
+        ghost
+        refl
+        refl
+        refl
+        (record {
+          thread = λ isAccepted. inThread;
+          noRelease = λ isAccepted isKind. omega arith;
+          noBoundary = λ isAccepted isKind. ⊎-elim (λ isAcquire. omega arith) (λ isLogrel. omega arith) isKind;
+          logged = λ isAccepted isKind. record {
+            number = number .0;
+            old = found .0;
+            isEntry = found .1;
+            isLast = isLast;
+            upTo = omega arith;
+            noBoundary = λ later after within. found .2 later after (record { since = omega arith; below = omega arith });
+          };
+        })
+        (machineHolds .sized)
+        (machineHolds .cacheSized)
+        (machineHolds .durableKept)
+        (machineHolds .cells)
 
     -- what STORE does to the cell
     pub stores-cell : (fails : AllFail (testsOf machine STORE thread place value)) →
@@ -406,7 +502,8 @@ module _ {start : Beginning} {machine : Machine} {history : List Fed} {ghost : G
         storedVersions
         refl
         refl
-        (quiet-step 3 thread place value refl (λ isKind. omega arith) (λ isKind. omega arith)
+        refl
+        (quiet-step 3 thread place value (omega arith)
         (store-asked machine thread place value fails .inThread))
         (effect-sized machine (machineHolds .sized) STORE thread place value fails)
         (CacheLaws.storeOf-sized (machine .cache) (machineHolds .cacheSized) place value)

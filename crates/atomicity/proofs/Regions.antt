@@ -247,11 +247,7 @@ module _ {entries : Entries} {home : ℕ → ℕ → ℕ} (book : Book) (holds :
       let found = holds .openLast under isOwner isOpen in
       ended (found .0) (found .1)))
 
-  -- a STORE joins the region of the last entry, and so of its cell's entry in the current region
-  pub joins-store : {thread number : ℕ} → Unended entries thread number → joins book 3 thread ≡ some (home thread number)
-  unfolding joins
-  joins-store last = open-is last
-
+  -- where the cell has an entry in the current region, that region is the open one
   pub open-current : {thread number cell content : ℕ} → Is entries thread number (Store cell content) →
       NoBoundaryAfter entries thread number → openOf book thread ≡ some (home thread number)
   open-current {thread} {number} is noBoundary =

@@ -3,11 +3,9 @@ use Prim.Native.Nat.{ℕ, suc, _+_, _-_, _<_}
 use native.Mathlib.Decide.{ℕ-discrete}
 use native.Mathlib.Omega.{arith}
 use mathlib.Core.Path.{_≡_, refl, sym, ap, _∙_}
-use mathlib.Core.Bool.{and-false}
 use mathlib.Core.List.{List}
 use mathlib.Core.Logic.{inl, inr, ⊎-elim, by-cases}
 use lib.ListN.{length}
-use lib.Dec.{eqb}
 use Rattle.sizes.specs.Sizes.{threadCount}
 use Rattle.answer.proofs.RefusalLaws.{AllFail}
 use Rattle.undo.specs.Events.{syncCount, endReleaseOf}
@@ -28,10 +26,11 @@ use Rattle.atomicity.proofs.Logged.{Keeps, still-is, kept-is}
 use Rattle.atomicity.proofs.Locks.{prunes-keep, ReleaseLocks, locks-release, count-grows}
 use Rattle.atomicity.proofs.Cells.{unchanged, cells-keep}
 use Rattle.atomicity.proofs.HistoryRuns.{tookStep}
-use Rattle.atomicity.proofs.Places.{madeBy, made-new, places-step}
+use Rattle.atomicity.proofs.Places.{madeBy, places-step}
+use Rattle.atomicity.proofs.PrunedCounts.{counted-same, counted-longer}
 use Rattle.atomicity.proofs.Times.{times-keep}
 use Rattle.atomicity.proofs.LogViews.{logAt, by-log, keep-view, log-same, log-other}
-use Rattle.atomicity.proofs.MachineInvariant.{Beginning, Ghost, MachineInvariant, entriesOf, locksOf, head-kept}
+use Rattle.atomicity.proofs.MachineInvariant.{Beginning, Ghost, MachineInvariant, entriesOf, locksOf, last-kept, head-kept}
 use Rattle.atomicity.proofs.AppendsKeep.{by-lock}
 use Rattle.atomicity.proofs.Ordered.{andThen}
 
@@ -52,7 +51,7 @@ module _ {start : Beginning} {machine : Machine} {history : List Fed} {ghost : G
       let freed : LockState =
       record { holder = Nobody; count = syncCount (lockOf machine place .count .0 + 1); pruned = lockOf machine place .pruned } in
       let keeps : Keeps (entriesOf start machine ghost) (entriesOf start after ghost) (length history) =
-      keep-view (start .before) (machine .logs) (ghost .event) (ghost .time) (length history) thread (endReleaseOf log)
+      keep-view (start .before) (machine .logs) (ghost .event) (ghost .time) (ghost .made) (length history) thread (endReleaseOf log)
       inLogs refl (omega arith) (omega arith) in
       let heads : (other : ℕ) → logAt (after .logs) other .head .0 ≡ logAt (machine .logs) other .head .0 =
       by-log (λ other l. l .head .0 ≡ logAt (machine .logs) other .head .0) (machine .logs) thread (endReleaseOf log)
@@ -89,8 +88,8 @@ module _ {start : Beginning} {machine : Machine} {history : List Fed} {ghost : G
       let last = machineHolds .locks .lastWhile (asked .isReleasingIt) in
       let counted = machineHolds .places .nextIs thread (asked .inThread) in
       let numbered = last .1 in
-      let atLast : madeBy (start .before) (andThen history fed) thread (suc (length history)) ≡ last .0 =
-      made-new history fed (start .before) thread ∙ rw (and-false (eqb thread thread)) (omega arith) in
+      let atLast : madeBy (entriesOf start after ghost) (andThen history fed) thread (suc (length history)) ≡ last .0 =
+      last-kept fed keeps (machineHolds .places) thread ∙ omega arith in
       record {
         sized = effect-sized machine (machineHolds .sized) RELEASE thread place value fails;
         logs =
@@ -112,7 +111,10 @@ module _ {start : Beginning} {machine : Machine} {history : List Fed} {ghost : G
             (record {
               grows = keeps .grows;
               thread = λ isAccepted. asked .inThread;
-              nextNew = λ other inRange. rw (and-false (eqb thread other)) (keeps .nextSame other ∙ omega arith);
+              nextNew = λ other inRange.
+                  rw (machineHolds .places .notYet (length history) (omega arith)) (keeps .nextSame other ∙ omega arith);
+              newMade = λ isAccepted isKind. absurd (⊎-elim (λ isAcquire. omega arith) (λ isLogrel. omega arith) isKind);
+              newLog = λ isAccepted isKind. absurd (omega arith);
               countGrows = count-grows step (machineHolds .locks);
               newRelease = λ isAccepted isKind. (
                 lockOf machine place .count .0,
@@ -142,4 +144,8 @@ module _ {start : Beginning} {machine : Machine} {history : List Fed} {ghost : G
             })
             (machineHolds .places);
         times = times-keep fed keeps (machineHolds .times);
+        counted =
+            counted-same heads prunedSame
+            (counted-longer fed (keeps .grows) (λ lock releases. let isKind = releases .isKind in absurd (omega arith))
+            (machineHolds .counted));
       }

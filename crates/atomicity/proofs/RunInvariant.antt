@@ -3,8 +3,7 @@ use Prim.Native.Nat.{ℕ, suc, _-_, _<_}
 use native.Mathlib.Decide.{decLt, ℕ-discrete}
 use native.Mathlib.Omega.{arith}
 use mathlib.Core.Path.{_≡_, refl, sym, ap, _∙_}
-use mathlib.Core.Bool.{true, false, and-false, true≢false}
-use lib.Dec.{eqb}
+use mathlib.Core.Bool.{true, false, true≢false}
 use borrow.Author.Tests.{eq-eqb}
 use mathlib.Core.List.{List, [], _∷_}
 use mathlib.Core.Logic.{by-cases}
@@ -16,34 +15,39 @@ use Rattle.answer.proofs.RefusalLaws.{AllFail}
 use Rattle.log.specs.Entries.{flushLogOf, fenceLogOf, evictSlotOf}
 use Rattle.undo.specs.Events.{endReleaseOf}
 use Rattle.tail.specs.Tail.{flushedTail, fencedTail, releasedTail}
-use Rattle.undo.specs.Regions.{isRelease}
+use Rattle.undo.specs.Regions.{isRelease, loggedOf}
 use Rattle.undo.specs.declared.Event.{Event}
+use Rattle.undo.specs.declared.Event.the-variants.{Store}
+use Rattle.undo.specs.declared.Found.the-variants.{Nowhere, At}
+use Rattle.ring.specs.declared.Lsn.{Lsn}
 use Rattle.accesses.specs.Accesses.{loadedOf, loggedCellOf}
-use Rattle.machine.specs.Effects.{loadEffect, logEffect, storeEffect, acquireEffect, logReleaseEffect, releaseEffect, flushEffect}
+use Rattle.machine.specs.Effects.{loadEffect, firstLogEffect, storeEffect, acquireEffect, logReleaseEffect, releaseEffect, flushEffect}
 use Rattle.machine.specs.Effects.{flushLogEffect, fenceEffect, evictEffect, evictLogEffect, effect}
 use Rattle.kinds.specs.Kinds.{Kind, LOAD, LOG, STORE, ACQUIRE, LOGREL, RELEASE, FLUSH, FLUSHLOG, FENCE, PRUNE, EVICT, EVICTLOG}
 use Rattle.machine.specs.declared.Machine.{Machine}
 use Rattle.machine.proofs.AcceptedMeans.{log-asked, acquire-asked, log-release-asked, release-asked, flush-log-asked, fence-asked}
 use Rattle.machine.proofs.AcceptedMeans.{evict-log-asked, store-asked, prune-asked}
+use Rattle.machine.proofs.LogCases.{log-cases}
 use Rattle.machine.proofs.StepLaws.{testsOf}
 use Rattle.reference.specs.Reference.{Book, emptyBook, openUnless, feed, feedAccepted, joins, openOf}
 use Rattle.atomicity.specs.History.{Fed, stepAt, fedBook, Joined}
-use Rattle.atomicity.proofs.Logged.{Entries, Made, Grows, new-made}
+use Rattle.atomicity.proofs.Logged.{Entries, Made, Is, Grows, new-made}
+use Rattle.atomicity.proofs.Cells.{NoBoundaryAfter}
 use Rattle.atomicity.proofs.BookLaws.{store-writes, store-regions}
 use Rattle.atomicity.proofs.Follows.{Follows}
 use Rattle.atomicity.proofs.HistoryRuns.{tookStep, kindNumber}
 use Rattle.atomicity.proofs.Ordered.{andThen, accepted-inside}
-use Rattle.atomicity.proofs.Places.{madeBy, lastOf, makes, made-new, step-before, step-new, last-was, length-then}
-use Rattle.atomicity.proofs.Regions.{RegionsHold, regions-keep, joinedPlace, open-current, unended-current, joins-store}
+use Rattle.atomicity.proofs.Places.{madeBy, lastOf, made-new, step-before, step-new, last-was, length-then}
+use Rattle.atomicity.proofs.Regions.{RegionsHold, regions-keep, joinedPlace, open-is, open-current, unended-current, joins-log}
 use Rattle.atomicity.proofs.RegionsAppend.{AppendRegions, append-homes, withHome, regions-log, regions-acquire, regions-release}
 use Rattle.atomicity.proofs.RegionsAppend.{joins-log-home, joins-acquire-home, joins-release-home}
 use Rattle.atomicity.proofs.RegionsPrune.{regions-prune}
 use Rattle.atomicity.proofs.StepsFollow.{effect-follows, refused-follows}
-use Rattle.atomicity.proofs.LogViews.{logAt}
-use Rattle.atomicity.proofs.MachineInvariant.{Beginning, Ghost, MachineInvariant, entriesOf, contentsOf}
+use Rattle.atomicity.proofs.LogViews.{logAt, same-view}
+use Rattle.atomicity.proofs.MachineInvariant.{Beginning, Ghost, MachineInvariant, entriesOf, contentsOf, last-kept}
 use Rattle.atomicity.proofs.QuietStepsKeep.{EntriesStay, log-stays, logs-stay, machine-refused, machine-load, machine-flush}
 use Rattle.atomicity.proofs.QuietStepsKeep.{machine-evict, machine-flush-log, machine-fence, machine-evict-log, stored-entry}
-use Rattle.atomicity.proofs.QuietStepsKeep.{stores-cell, storedVersions, machine-store}
+use Rattle.atomicity.proofs.QuietStepsKeep.{stores-cell, storedVersions, machine-store, logged-entry, logged-now, machine-log-again}
 use Rattle.atomicity.proofs.AppendsKeep.{appends, acquireEntry, releaseEntry, storeEntry, ghostThen, machine-acquire}
 use Rattle.atomicity.proofs.AppendsKeep.{machine-log-release, log-appends, logs-cell, loggedVersions, machine-log}
 use Rattle.atomicity.proofs.ReleaseKeeps.{machine-release}
@@ -66,8 +70,8 @@ book-then book (first ∷ history) fed =
 abbrev pub JoinsHold : Beginning → List Fed → Entries → (ℕ → ℕ → ℕ) → Type 0
 JoinsHold start history entries home =
     (place region : ℕ) → Joined (start .cells) history place region →
-    Made entries (stepAt history place .thread) (lastOf (entries .before) history place) ×
-    (home (stepAt history place .thread) (lastOf (entries .before) history place) ≡ region)
+    Made entries (stepAt history place .thread) (lastOf entries history place) ×
+    (home (stepAt history place .thread) (lastOf entries history place) ≡ region)
 
 pub record RunInvariant (start : Beginning) (machine : Machine) (history : List Fed) : Type 0 where
   pub ghost : Ghost
@@ -82,8 +86,8 @@ pub record RunInvariant (start : Beginning) (machine : Machine) (history : List 
 abbrev pub JoinsNew : Beginning → List Fed → Fed → Entries → (ℕ → ℕ → ℕ) → Type 0
 JoinsNew start history fed entries home =
     (region : ℕ) → fed .accepted ≡ true → joins (bookOf start history) (fed .kind) (fed .thread) ≡ some region →
-    Made entries (fed .thread) (madeBy (entries .before) (andThen history fed) (fed .thread) (suc (length history))) ×
-    (home (fed .thread) (madeBy (entries .before) (andThen history fed) (fed .thread) (suc (length history))) ≡ region)
+    Made entries (fed .thread) (madeBy entries (andThen history fed) (fed .thread) (suc (length history))) ×
+    (home (fed .thread) (madeBy entries (andThen history fed) (fed .thread) (suc (length history))) ≡ region)
 
 module _ (start : Beginning) {history : List Fed} {old new : Entries} (home after : ℕ → ℕ → ℕ) (fed : Fed) where
   -- each older step stands at an entry of the region that it joined, and the new one at an entry of the region that it joins
@@ -103,8 +107,8 @@ module _ (start : Beginning) {history : List Fed} {old new : Entries} (home afte
       } in
       let found = holds place region was in
       rw (last-was history fed grows before, same) (
-        grows .still (stepAt history place .thread) (lastOf (old .before) history place) (found .0),
-        homes (stepAt history place .thread) (lastOf (old .before) history place) (found .0) ∙ found .1,
+        grows .still (stepAt history place .thread) (lastOf old history place) (found .0),
+        homes (stepAt history place .thread) (lastOf old history place) (found .0) ∙ found .1,
       ))
       (λ notBefore.
       by-cases
@@ -136,6 +140,12 @@ module _ {start : Beginning} {machine : Machine} {history : List Fed} (runHolds 
 
   abbrev ghost : Ghost
   ghost = runHolds .ghost
+
+  -- what the machine has to do with its history, after an effect
+  follows-then : (kind : Kind) (thread place value : ℕ) → AllFail (testsOf machine kind thread place value) →
+      Follows (effect machine kind thread place value .machine) (andThen history (tookStep kind thread place value))
+  follows-then =
+      effect-follows machine history (runHolds .follows) (λ thread cell. logged-now (runHolds .machineHolds) thread cell 0)
 
   -- a step that makes no entry, moves no head, and that the reference model passes over keeps all concerns
   run-quiet : (after : Machine) (fed : Fed) → MachineInvariant start after (andThen history fed) ghost →
@@ -186,7 +196,7 @@ module _ {start : Beginning} {machine : Machine} {history : List Fed} (runHolds 
         (effect machine LOAD thread place value .machine)
         (tookStep LOAD thread place value)
         (machine-load (runHolds .machineHolds) thread place value fails)
-        (effect-follows machine history (runHolds .follows) LOAD thread place value fails)
+        (follows-then LOAD thread place value fails)
         (logs-stay start machine _ ghost (length history) refl)
         refl
         (λ isAccepted. refl)
@@ -198,7 +208,7 @@ module _ {start : Beginning} {machine : Machine} {history : List Fed} (runHolds 
         (effect machine FLUSH thread place value .machine)
         (tookStep FLUSH thread place value)
         (machine-flush (runHolds .machineHolds) thread place value fails)
-        (effect-follows machine history (runHolds .follows) FLUSH thread place value fails)
+        (follows-then FLUSH thread place value fails)
         (logs-stay start machine _ ghost (length history) refl)
         refl
         (λ isAccepted. refl)
@@ -210,7 +220,7 @@ module _ {start : Beginning} {machine : Machine} {history : List Fed} (runHolds 
         (effect machine EVICT thread place value .machine)
         (tookStep EVICT thread place value)
         (machine-evict (runHolds .machineHolds) thread place value fails)
-        (effect-follows machine history (runHolds .follows) EVICT thread place value fails)
+        (follows-then EVICT thread place value fails)
         (logs-stay start machine _ ghost (length history) refl)
         refl
         (λ isAccepted. refl)
@@ -222,7 +232,7 @@ module _ {start : Beginning} {machine : Machine} {history : List Fed} (runHolds 
         (effect machine FLUSHLOG thread place value .machine)
         (tookStep FLUSHLOG thread place value)
         (machine-flush-log (runHolds .machineHolds) thread place value fails)
-        (effect-follows machine history (runHolds .follows) FLUSHLOG thread place value fails)
+        (follows-then FLUSHLOG thread place value fails)
         (log-stays start machine _ ghost (length history) thread (flushLogOf (logAt (machine .logs) thread)) refl
         (inLogs (flush-log-asked machine thread place value fails)) refl refl (omega arith))
         refl
@@ -236,7 +246,7 @@ module _ {start : Beginning} {machine : Machine} {history : List Fed} (runHolds 
         (effect machine FENCE thread place value .machine)
         (tookStep FENCE thread place value)
         (machine-fence (runHolds .machineHolds) thread place value fails)
-        (effect-follows machine history (runHolds .follows) FENCE thread place value fails)
+        (follows-then FENCE thread place value fails)
         (log-stays start machine _ ghost (length history) thread (fenceLogOf (logAt (machine .logs) thread)) refl
         (inLogs inRange) refl refl (runHolds .machineHolds .logs thread inRange .durableFlushed))
         refl
@@ -249,7 +259,7 @@ module _ {start : Beginning} {machine : Machine} {history : List Fed} (runHolds 
         (effect machine EVICTLOG thread place value .machine)
         (tookStep EVICTLOG thread place value)
         (machine-evict-log (runHolds .machineHolds) thread place value fails)
-        (effect-follows machine history (runHolds .follows) EVICTLOG thread place value fails)
+        (follows-then EVICTLOG thread place value fails)
         (log-stays start machine _ ghost (length history) thread (evictSlotOf (logAt (machine .logs) thread) place) refl
         (inLogs (evict-log-asked machine thread place value fails .inThread)) refl refl (omega arith))
         refl
@@ -262,7 +272,7 @@ module _ {start : Beginning} {machine : Machine} {history : List Fed} (runHolds 
         (effect machine RELEASE thread place value .machine)
         (tookStep RELEASE thread place value)
         (machine-release (runHolds .machineHolds) thread place value fails)
-        (effect-follows machine history (runHolds .follows) RELEASE thread place value fails)
+        (follows-then RELEASE thread place value fails)
         (log-stays start machine _ ghost (length history) thread (endReleaseOf (logAt (machine .logs) thread)) refl
         (inLogs (release-asked machine thread place value fails .inThread)) refl refl (omega arith))
         refl
@@ -279,7 +289,7 @@ module _ {start : Beginning} {machine : Machine} {history : List Fed} (runHolds 
           ghost = ghost;
           home = runHolds .home;
           machineHolds = machine-prune (runHolds .machineHolds) thread place value fails;
-          follows = effect-follows machine history (runHolds .follows) PRUNE thread place value fails;
+          follows = follows-then PRUNE thread place value fails;
           regions = rw (same, prune-logs machine thread place value) (regions-prune step (runHolds .regions));
           writes = rw same (record { tracks = runHolds .writes .tracks });
           joined =
@@ -294,43 +304,72 @@ module _ {start : Beginning} {machine : Machine} {history : List Fed} (runHolds 
               (λ region isAccepted isSome. never-joins refl isSome);
         }
 
+    -- a step that makes no entry and joins the open region, in which an entry of a cell stands, stands in that region itself
+    joined-current : (kind : Kind) {number cell old : ℕ} → thread < threadCount →
+        Is (entriesOf start machine ghost) thread number (Store cell old) → NoBoundaryAfter (entriesOf start machine ghost) thread number →
+        joins book (kindNumber kind) thread ≡ openOf book thread →
+        JoinsHold start (andThen history (tookStep kind thread place value)) (entriesOf start machine ghost) (runHolds .home)
+    joined-current kind inThread is noBoundary joinsOpen =
+        let fed = tookStep kind thread place value in
+        let keeps = same-view (entriesOf start machine ghost) (length history) in
+        let last = unended-current (runHolds .regions) (is .made) (ap isRelease (is .says)) noBoundary in
+        let counted = runHolds .machineHolds .places .nextIs thread inThread in
+        let isLast = last .1 .isLast in
+        let atLast : madeBy (entriesOf start machine ghost) (andThen history fed) thread (suc (length history)) ≡ last .0 =
+        last-kept fed keeps (runHolds .machineHolds .places) thread ∙ omega arith in
+        joins-then
+        start
+        (runHolds .home)
+        (runHolds .home)
+        fed
+        (keeps .grows)
+        (λ other number made. refl)
+        (runHolds .joined)
+        (λ region isAccepted isSome.
+        let lands : some (runHolds .home thread (last .0)) ≡ some region =
+        sym (open-is book (runHolds .regions) (last .1)) ∙ (sym joinsOpen ∙ isSome) in
+        rw atLast (last .1 .made, (cc)))
+
     run-store : Kept STORE
     unfolding effect storeEffect feed feedAccepted joins
     run-store fails =
-        let fed = tookStep STORE thread place value in
-        let asked = store-asked machine thread place value fails in
         let found = stored-entry (runHolds .machineHolds) thread place value fails in
-        let stay = logs-stay start machine machine ghost (length history) refl in
         let isOpen = open-current book (runHolds .regions) (found .2) (found .3) in
-        let same = book-then (emptyBook (start .cells)) history fed in
-        let notRelease : isRelease (ghost .event thread (found .0)) ≡ false = ap isRelease (found .2 .says) in
-        let last = unended-current (runHolds .regions) (found .2 .made) notRelease (found .3) in
-        let counted = runHolds .machineHolds .places .nextIs thread (asked .inThread) in
-        let isLast = last .1 .isLast in
-        let atLast : madeBy (start .before) (andThen history fed) thread (suc (length history)) ≡ last .0 =
-        made-new history fed (start .before) thread ∙ rw (and-false (eqb thread thread)) (omega arith) in
+        let same = book-then (emptyBook (start .cells)) history (tookStep STORE thread place value) in
         record {
           ghost = storedVersions (runHolds .machineHolds) thread place value;
           home = runHolds .home;
           machineHolds = machine-store (runHolds .machineHolds) thread place value fails;
-          follows = effect-follows machine history (runHolds .follows) STORE thread place value fails;
+          follows = follows-then STORE thread place value fails;
           regions = rw (same, store-regions book thread place value) (runHolds .regions);
           writes =
               rw (same, store-writes book thread place value isOpen)
               (writes-store (stores-cell (runHolds .machineHolds) thread place value fails) (runHolds .writes));
+          joined = joined-current STORE (store-asked machine thread place value fails .inThread) (found .2) (found .3) refl;
+        }
+
+    -- a LOG of a cell that the current region has an entry of leaves all as it is, and joins that region
+    run-log-again : AllFail (testsOf machine LOG thread place value) → (number : Lsn) →
+        loggedOf (logAt (machine .logs) thread) place ≡ At number → Follows machine (andThen history (tookStep LOG thread place value)) →
+        RunInvariant start machine (andThen history (tookStep LOG thread place value))
+    unfolding feed feedAccepted
+    run-log-again fails number isAt follows =
+        let inThread = log-asked machine thread place value fails .inThread in
+        let found = logged-entry (runHolds .machineHolds) thread place value inThread number isAt in
+        let isOpen = open-current book (runHolds .regions) (found .1) (found .2) in
+        let same : bookOf start (andThen history (tookStep LOG thread place value)) ≡ book =
+        book-then (emptyBook (start .cells)) history (tookStep LOG thread place value) ∙
+        ap (λ (found : Option ℕ). openUnless found book thread) isOpen in
+        record {
+          ghost = ghost;
+          home = runHolds .home;
+          machineHolds = machine-log-again (runHolds .machineHolds) thread place value fails number isAt;
+          follows = follows;
+          regions = rw same (runHolds .regions);
+          writes = rw same (runHolds .writes);
           joined =
-              joins-then
-              start
-              (runHolds .home)
-              (runHolds .home)
-              fed
-              (stay .keeps .grows)
-              (λ other number made. refl)
-              (runHolds .joined)
-              (λ region isAccepted isSome.
-              let lands : some (runHolds .home thread (last .0)) ≡ some region =
-              sym (joins-store book (runHolds .regions) (last .1)) ∙ isSome in
-              rw atLast (last .1 .made, (cc)));
+              joined-current LOG inThread (found .1) (found .2)
+              (joins-log book thread ∙ rw isOpen);
         }
 
     -- the number of the entry that the step makes
@@ -338,18 +377,17 @@ module _ {start : Beginning} {machine : Machine} {history : List Fed} (runHolds 
     newest = logAt (machine .logs) thread .tail .next .0
 
     -- a step that makes an entry joins the region that the entry joins
-    joined-append : (kind : Kind) (new : Entries) (region : ℕ) {event : Event} →
-        makes (tookStep kind thread place value) thread ≡ true → thread < threadCount →
+    joined-append : (kind : Kind) (new : Entries) (region : ℕ) {event : Event} → thread < threadCount →
         AppendRegions (entriesOf start machine ghost) new (length history) thread event (runHolds .home)
         (withHome (runHolds .home) thread newest region) region →
         joins book (kindNumber kind) thread ≡ some (withHome (runHolds .home) thread newest region thread newest) →
         JoinsHold start (andThen history (tookStep kind thread place value)) new (withHome (runHolds .home) thread newest region)
-    joined-append kind new region isMade inThread homes joinsIt =
+    joined-append kind new region inThread homes joinsIt =
         let fed = tookStep kind thread place value in
         let counted = runHolds .machineHolds .places .nextIs thread inThread in
-        let atNew : madeBy (new .before) (andThen history fed) thread (suc (length history)) ≡ newest =
-        ap (λ (given : ℕ → ℕ). madeBy given (andThen history fed) thread (suc (length history))) (homes .appends .grows .beforeSame) ∙
-        (made-new history fed (start .before) thread ∙ rw isMade (omega arith)) in
+        let atNew : madeBy new (andThen history fed) thread (suc (length history)) ≡ newest =
+        made-new history fed (homes .appends .grows) thread ∙
+        rw (homes .appends .madeNew, eq-eqb thread thread refl) (omega arith) in
         joins-then
         start
         (runHolds .home)
@@ -362,12 +400,14 @@ module _ {start : Beginning} {machine : Machine} {history : List Fed} (runHolds 
         let lands : some (withHome (runHolds .home) thread newest region thread newest) ≡ some found = sym joinsIt ∙ isSome in
         rw atNew (new-made (homes .appends), (cc)))
 
-    run-log : Kept LOG
-    unfolding effect logEffect loggedCellOf feed feedAccepted
-    run-log fails =
+    run-first-log : AllFail (testsOf machine LOG thread place value) → loggedOf (logAt (machine .logs) thread) place ≡ Nowhere →
+        Follows (firstLogEffect machine thread place .machine) (andThen history (tookStep LOG thread place value)) →
+        RunInvariant start (firstLogEffect machine thread place .machine) (andThen history (tookStep LOG thread place value))
+    unfolding firstLogEffect loggedCellOf feed feedAccepted
+    run-first-log fails isNowhere follows =
         let fed = tookStep LOG thread place value in
         let asked = log-asked machine thread place value fails in
-        let appended = log-appends (runHolds .machineHolds) thread place value (runHolds .follows) fails in
+        let appended = log-appends (runHolds .machineHolds) thread place value (runHolds .follows) fails isNowhere in
         let region = joinedPlace book thread in
         let homes = append-homes (runHolds .home) region appended (runHolds .machineHolds .logs thread (asked .inThread) .headNext) in
         let same = book-then (emptyBook (start .cells)) history fed in
@@ -377,15 +417,28 @@ module _ {start : Beginning} {machine : Machine} {history : List Fed} (runHolds 
               (storeEntry (runHolds .machineHolds) thread place value)
               (loggedVersions (runHolds .machineHolds) thread place value);
           home = withHome (runHolds .home) thread newest region;
-          machineHolds = machine-log (runHolds .machineHolds) thread place value (runHolds .follows) fails;
-          follows = effect-follows machine history (runHolds .follows) LOG thread place value fails;
+          machineHolds = machine-log (runHolds .machineHolds) thread place value (runHolds .follows) fails isNowhere;
+          follows = follows;
           regions = rw same (regions-log book homes (runHolds .regions));
           writes =
               rw (same, open-writes (openOf book thread) book thread)
-              (writes-log (logs-cell (runHolds .machineHolds) thread place value (runHolds .follows) fails)
+              (writes-log (logs-cell (runHolds .machineHolds) thread place value (runHolds .follows) fails isNowhere)
               (homes .homeKept) (runHolds .machineHolds .cells) (runHolds .writes));
-          joined = joined-append LOG _ region (rw (eq-eqb thread thread refl)) (asked .inThread) homes (joins-log-home book homes);
+          joined = joined-append LOG _ region (asked .inThread) homes (joins-log-home book homes);
         }
+
+    run-log : Kept LOG
+    unfolding effect
+    run-log fails =
+        let fed = tookStep LOG thread place value in
+        log-cases
+        (λ stepped. Follows (stepped .machine) (andThen history fed) → RunInvariant start (stepped .machine) (andThen history fed))
+        machine
+        thread
+        place
+        (run-first-log fails)
+        (run-log-again fails)
+        (follows-then LOG thread place value fails)
 
     run-acquire : Kept ACQUIRE
     unfolding effect acquireEffect feed feedAccepted
@@ -404,10 +457,10 @@ module _ {start : Beginning} {machine : Machine} {history : List Fed} (runHolds 
               (acquireEntry (runHolds .machineHolds) thread place value) (ghost .versions);
           home = withHome (runHolds .home) thread newest region;
           machineHolds = machine-acquire (runHolds .machineHolds) thread place value fails;
-          follows = effect-follows machine history (runHolds .follows) ACQUIRE thread place value fails;
+          follows = follows-then ACQUIRE thread place value fails;
           regions = rw same (regions-acquire book homes (runHolds .regions));
           writes = rw same (writes-keep (λ cell. refl) (homes .homeKept) (runHolds .machineHolds .cells) (runHolds .writes));
-          joined = joined-append ACQUIRE _ region (rw (eq-eqb thread thread refl)) (asked .inThread) homes (joins-acquire-home book homes);
+          joined = joined-append ACQUIRE _ region (asked .inThread) homes (joins-acquire-home book homes);
         }
 
     run-log-release : Kept LOGREL
@@ -427,12 +480,12 @@ module _ {start : Beginning} {machine : Machine} {history : List Fed} (runHolds 
               (releaseEntry (runHolds .machineHolds) thread place value) (ghost .versions);
           home = withHome (runHolds .home) thread newest region;
           machineHolds = machine-log-release (runHolds .machineHolds) thread place value fails;
-          follows = effect-follows machine history (runHolds .follows) LOGREL thread place value fails;
+          follows = follows-then LOGREL thread place value fails;
           regions = rw same (regions-release book homes (runHolds .regions));
           writes =
               rw (same, open-writes (openOf book thread) book thread)
               (writes-keep (λ cell. refl) (homes .homeKept) (runHolds .machineHolds .cells) (runHolds .writes));
-          joined = joined-append LOGREL _ region (rw (eq-eqb thread thread refl)) (asked .inThread) homes (joins-release-home book homes);
+          joined = joined-append LOGREL _ region (asked .inThread) homes (joins-release-home book homes);
         }
 
   -- each effect whose tests all failed keeps all concerns

@@ -4,7 +4,7 @@ use Prim.Native.Nat.{ℕ, suc, _-_, _≤_}
 use native.Mathlib.Decide.{ℕ-discrete}
 use native.Mathlib.Omega.{arith}
 use mathlib.Core.Path.{_≡_, refl, sym, ap, _∙_}
-use mathlib.Core.Bool.{false≢true}
+use mathlib.Core.Bool.{false, false≢true}
 use mathlib.Core.List.{List, []}
 use mathlib.Core.Logic.{by-cases}
 use lib.ListN.{length, replicate}
@@ -29,6 +29,7 @@ use Rattle.atomicity.proofs.Cells.{unlogged}
 use Rattle.atomicity.proofs.Holding.{nobody-holds, nothing-released}
 use Rattle.atomicity.proofs.HistoryRuns.{run-keeps}
 use Rattle.atomicity.proofs.Places.{madeBy}
+use Rattle.atomicity.proofs.PrunedCounts.{countBelow}
 use Rattle.atomicity.proofs.Regions.{regions-start}
 use Rattle.atomicity.proofs.StepsFollow.{begin-follows}
 use Rattle.atomicity.proofs.LogViews.{logAt}
@@ -42,7 +43,7 @@ beginningWith cells logs = record { cells = cells; before = λ thread. logAt log
 
 -- before the first step nothing was said
 nothingSaid : Ghost
-nothingSaid = record { event = λ thread number. Empty; time = λ thread number. 0; versions = λ cell. [] }
+nothingSaid = record { event = λ thread number. Empty; time = λ thread number. 0; made = λ place. false; versions = λ cell. [] }
 
 module _ (cells : List ℕ) (logs : List Log) (isLength : length cells ≡ cellCount) (all : AllIdle logs) where
   abbrev machine : Machine
@@ -64,7 +65,7 @@ module _ (cells : List ℕ) (logs : List Log) (isLength : length cells ≡ cellC
   never-releases thread isReleasing = nothing-released (releases-nothing logs all thread) isReleasing
 
   begin-machine : MachineInvariant begin machine [] nothingSaid
-  unfolding nothingSaid madeBy
+  unfolding nothingSaid madeBy countBelow
   begin-machine = record {
     sized = begin-sized cells logs all;
     logs = λ thread inRange. idle-holds (logAt logs thread) (λ number. payloadOf Empty) (all .idle thread inRange);
@@ -98,6 +99,9 @@ module _ (cells : List ℕ) (logs : List Log) (isLength : length cells ≡ cellC
     places = record {
       threadIs = λ place isAccepted. absurd (false≢true isAccepted);
       nextIs = λ thread inRange. omega (arith, all .idle thread inRange .headLeast, all .idle thread inRange .nextIs);
+      notYet = λ place beyond. refl;
+      madeAt = λ isAccepted isKind. absurd (false≢true (isAccepted .isAccepted));
+      logAt = λ isAccepted. absurd (false≢true (isAccepted .isAccepted));
       releaseAt = λ isAccepted. absurd (false≢true (isAccepted .isAccepted));
       releasedBy = λ release taken. none-made (release .made);
       lockLeads = λ before isRelease isAcquire same. absurd (false≢true (isRelease .isAccepted));
@@ -108,6 +112,7 @@ module _ (cells : List ℕ) (logs : List Log) (isLength : length cells ≡ cellC
       formed = λ thread number made. none-made made;
       entryStep = λ is. none-made (is .made);
     };
+    counted = record { number = λ lock. ap (λ (state : LockState). state .pruned .0) (lock-free logs all cells lock) };
   }
 
   pub begin-run : RunInvariant begin machine []

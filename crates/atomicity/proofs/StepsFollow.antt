@@ -1,11 +1,11 @@
--- Every list of steps from the start leads to a machine whose clocks, accesses and locks are those of the history.
+-- Each step keeps what a machine has to do with its history: its clocks, accesses and locks are those of the history.
 use Prim.Native.Nat.{ℕ, suc, _<_, _≤_, _+_, _-_}
 use mathlib.Core.Path.{_≡_, refl, sym, _∙_, ap}
 use mathlib.Core.Bool.{true, false, false≢true}
 use mathlib.Core.List.{List, [], _∷_}
-use mathlib.Core.Logic.{inr, ⊎-elim, _≢_}
+use mathlib.Core.Logic.{⊎-elim, _≢_}
 use native.Mathlib.Omega.{arith}
-use lib.ListN.{set, replicate}
+use lib.ListN.{length, set, replicate}
 use borrow.Author.Tests.{ltb-true, not-false}
 use Rattle.sizes.specs.Sizes.{threadCount, lockCount}
 use Rattle.answer.proofs.RefusalLaws.{AllFail}
@@ -14,34 +14,39 @@ use Rattle.tail.specs.Tail.{flushedTail, fencedTail, releasedTail}
 use Rattle.append.specs.Append.{grownTail}
 use Rattle.undo.specs.Events.{syncCount, liveEvent, enterOf, endReleaseOf}
 use Rattle.log.specs.Entries.{flushLogOf, fenceLogOf, evictSlotOf, dropOf, appendOf}
-use Rattle.undo.specs.Regions.{oldestRegion}
+use Rattle.undo.specs.Regions.{oldestRegion, loggedOf}
 use Rattle.undo.specs.declared.Event.{Event}
 use Rattle.undo.specs.declared.Event.the-variants.{Empty, Store, Acquire, Release}
+use Rattle.undo.specs.declared.Found.the-variants.{Nowhere, At}
 use Rattle.log.specs.declared.Log.{Log}
-use Rattle.clocks.specs.Clocks.{clockAt, noClock, startClocks}
-use Rattle.machine.specs.Clocks.{logRaces}
-use Rattle.machine.specs.Effects.{loadEffect, logEffect, storeEffect, acquireEffect, logReleaseEffect, releaseEffect, flushEffect}
+use Rattle.ring.specs.declared.Lsn.{Lsn}
+use Rattle.clocks.specs.Clocks.{noClock, startClocks}
+use Rattle.accesses.specs.Accesses.{loggedCellOf}
+use Rattle.machine.specs.Effects.{loadEffect, firstLogEffect, storeEffect, acquireEffect, logReleaseEffect, releaseEffect, flushEffect}
 use Rattle.machine.specs.Effects.{flushLogEffect, fenceEffect, pruneEffect, countPruned, evictEffect, evictLogEffect, effect}
 use Rattle.kinds.specs.Kinds.{Kind, LOAD, LOG, STORE, ACQUIRE, LOGREL, RELEASE, FLUSH, FLUSHLOG, FENCE, PRUNE, EVICT, EVICTLOG}
 use Rattle.machine.specs.Holds.{logOf, lockOf, clockOf, withLog}
-use Rattle.machine.specs.Refusals.{logTests, acquireTests, logReleaseTests, stateTests}
+use Rattle.machine.specs.Refusals.{acquireTests, logReleaseTests, stateTests}
 use Rattle.locks.specs.LockSteps.{releaseTests}
-use Rattle.machine.specs.Runs.{Step, after}
 use Rattle.locks.specs.declared.Holder.the-variants.{Nobody, Thread}
 use Rattle.machine.specs.declared.Machine.{Machine}
+use Rattle.machine.proofs.AcceptedMeans.{load-asked, first-log-asked}
+use Rattle.machine.proofs.LogCases.{log-cases}
 use Rattle.machine.proofs.StepLaws.{testsOf}
-use Rattle.machine.proofs.Beginnings.{machineWith, AllIdle, freshLogs, fresh-all, on-start}
+use Rattle.machine.proofs.Beginnings.{machineWith, AllIdle}
 use Rattle.machine.proofs.Sizes.{Sized, effect-sized, begin-sized}
-use Rattle.atomicity.specs.History.{Fed, stepAt, startMachine, machineAfter, historyAfter}
+use Rattle.atomicity.specs.History.{Fed, stepAt}
+use Rattle.atomicity.specs.HappensBefore.{HappensBefore}
 use Rattle.atomicity.proofs.Epochs.{releases, epochAt}
-use Rattle.atomicity.proofs.Ordered.{andThen, own-reaches, old-or-next, step-stays, step-next}
+use Rattle.atomicity.proofs.Ordered.{andThen, old-or-next, step-stays, step-next}
 use Rattle.atomicity.proofs.ClockInvariant.{clocked-start, clocked-refused, clocked-plain, clocked-acquire, clocked-release}
-use Rattle.atomicity.proofs.AccessInvariant.{Took, AccessOf, accessed-start, accessed-refused, accessed-plain, accessed-load}
-use Rattle.atomicity.proofs.AccessInvariant.{accessed-log}
+use Rattle.atomicity.proofs.AccessInvariant.{Took, AccessOf, AccessTo, accessed-start, accessed-refused, accessed-plain}
+use Rattle.atomicity.proofs.AccessInvariant.{accessed-load, accessed-log}
 use Rattle.atomicity.proofs.Holding.{releasing-lock, held-by, Held, begin-held, held-log, held-lock, held-acquire, held-release}
-use Rattle.atomicity.proofs.HistoryRuns.{kindNumber, tookStep, thread-in-range, place-in-range, state-fails, run-keeps}
-use Rattle.atomicity.proofs.Follows.{Follows}
-use Rattle.atomicity.proofs.RaceTests.{log-ordered}
+use Rattle.atomicity.proofs.HistoryRuns.{kindNumber, tookStep, thread-in-range, place-in-range, state-fails}
+use Rattle.atomicity.proofs.Follows.{Follows, own-at-most}
+use Rattle.atomicity.proofs.RaceTests.{load-ordered, log-ordered}
+use Rattle.atomicity.proofs.Repeats.{LoggedNow, all-before, recorded}
 
 -- a kind that neither accesses a cell nor joins or raises a clock
 record Plain (kind : ℕ) : Type 0 where
@@ -71,6 +76,12 @@ pruned-held machine (Store cell old) held = held
 pruned-held machine (Acquire lock count) held = held
 pruned-held machine (Release lock count) held =
     held-lock (machine .logs) (machine .locks) (machine .clocks) (machine .«lock_clocks») held lock _ refl
+
+-- where a thread's current region has an entry of a cell, the thread took a LOG of it and no RELEASE since
+abbrev pub LogsNow : Machine → List Fed → Type 0
+LogsNow machine history =
+    (thread cell : ℕ) → thread < threadCount → (number : Lsn) → loggedOf (logOf machine thread) cell ≡ At number →
+    LoggedNow history thread cell
 
 module _ (machine : Machine) (history : List Fed) (follows : Follows machine history) where
   -- the threads of accepted steps stay in range
@@ -120,17 +131,8 @@ module _ (machine : Machine) (history : List Fed) (follows : Follows machine his
         (omega (arith, follows .sized .logs))
         (λ lock isReleasing. follows .held .releasesHeld thread lock (sym same ∙ isReleasing))
 
-    -- a thread's earlier accesses have at most its own number for their epoch
-    own-at-most : (cell place : ℕ) → Took history (AccessOf cell thread) place → epochAt history place ≤ suc (releases history thread)
-    own-at-most cell place took =
-        let isOwn = took .isSort .2 in
-        omega (
-          arith,
-          follows .clocked .own thread isThread,
-          ap (clockAt (clockOf machine thread)) isOwn,
-          follows .clocked .threads thread isThread .counts place (took .isAccepted)
-              (rw isOwn at (own-reaches history place (took .isAccepted))),
-        )
+    own-accesses : (cell place : ℕ) → Took history (AccessOf cell thread) place → epochAt history place ≤ suc (releases history thread)
+    own-accesses cell place took = own-at-most machine history follows thread isThread place (took .isAccepted) (took .isSort .2)
 
   module _ (thread place value : ℕ) where
     abbrev Kept : Kind → Type 0
@@ -219,6 +221,7 @@ module _ (machine : Machine) (history : List Fed) (follows : Follows machine his
     load-kept : Kept LOAD
     unfolding effect loadEffect
     load-kept fails =
+        let noRace = load-asked machine thread place value fails .noRace in
         let isThread = thread-in-range machine LOAD thread place value fails in
         let isCell = ltb-true place cellCount (not-false _ (place-in-range machine LOAD thread place value fails)) in
         let next = tookStep LOAD thread place value in
@@ -231,33 +234,71 @@ module _ (machine : Machine) (history : List Fed) (follows : Follows machine his
           accessed =
               rw (follows .clocked .own thread isThread)
               (accessed-load history next (machine .accesses) (follows .accessed) refl isThread isCell
-              (follows .sized .stamps) (own-at-most thread isThread place) refl);
+              (follows .sized .stamps) (own-accesses thread isThread place) refl
+              (load-ordered machine history follows next refl isThread (omega arith) place isCell noRace));
           held = follows .held;
         }
 
-    log-kept : Kept LOG
-    unfolding effect logEffect stateTests logTests appendOf grownTail logRaces
-    log-kept fails =
+    -- a LOG that leaves these accesses and this log
+    log-follows : (after : Machine) → AllFail (testsOf machine LOG thread place value) → Sized after →
+        after .clocks ≡ machine .clocks → after .«lock_clocks» ≡ machine .«lock_clocks» →
+        after .accesses ≡ loggedCellOf (machine .accesses) thread place (suc (releases history thread)) →
+        ((earlier : ℕ) → Took history (AccessTo place) earlier →
+        HappensBefore (andThen history (tookStep LOG thread place value)) earlier (length history)) →
+        (thread < threadCount → Held (after .logs) (after .locks) (machine .clocks) (machine .«lock_clocks»)) →
+        Follows after (andThen history (tookStep LOG thread place value))
+    log-follows after fails sized sameClocks sameLockClocks recorded inOrder held =
         let isThread = thread-in-range machine LOG thread place value fails in
         let isCell = ltb-true place cellCount (not-false _ (place-in-range machine LOG thread place value fails)) in
         let next = tookStep LOG thread place value in
-        let noRace = state-fails machine LOG thread place value fails .1 .1 .0 in
         record {
-          sized = effect-sized machine (follows .sized) LOG thread place value fails;
+          sized = sized;
           inRange = range-next next isThread;
           clocked =
-              clocked-plain (machine .clocks) (machine .«lock_clocks») history next (follows .clocked) refl isThread
-              (omega arith) (omega arith);
+              rw (sameClocks, sameLockClocks)
+              (clocked-plain (machine .clocks) (machine .«lock_clocks») history next (follows .clocked) refl isThread
+              (omega arith) (omega arith));
           accessed =
-              rw (follows .clocked .own thread isThread)
+              rw recorded
               (accessed-log history next (machine .accesses) (follows .accessed) refl isThread isCell
-              (follows .sized .stamps) (own-at-most thread isThread place) refl (follows .sized .logged)
-              (follows .sized .loggers)
-              (λ earlier took.
-              log-ordered machine history follows next refl isThread (omega arith) place isCell noRace earlier
-              (took .isAccepted) (inr (took .isSort .0)) (took .isSort .1)));
-          held = held-with thread isThread (enterOf (logOf machine thread) (Store place (cachedAt (machine .cache) place))) refl;
+              (follows .sized .stamps) (own-accesses thread isThread place) refl (follows .sized .logged)
+              (follows .sized .loggers) inOrder);
+          held = rw (sameClocks, sameLockClocks) (held isThread);
         }
+
+    first-log-kept : AllFail (testsOf machine LOG thread place value) → loggedOf (logOf machine thread) place ≡ Nowhere →
+        Sized (firstLogEffect machine thread place .machine) →
+        Follows (firstLogEffect machine thread place .machine) (andThen history (tookStep LOG thread place value))
+    unfolding firstLogEffect appendOf grownTail
+    first-log-kept fails isNowhere sized =
+        let isCell = ltb-true place cellCount (not-false _ (place-in-range machine LOG thread place value fails)) in
+        let next = tookStep LOG thread place value in
+        let isThread = thread-in-range machine LOG thread place value fails in
+        let noRace = first-log-asked machine thread place value fails isNowhere .noRace in
+        log-follows (firstLogEffect machine thread place .machine) fails sized refl refl
+        (ap (loggedCellOf (machine .accesses) thread place) (follows .clocked .own thread isThread))
+        (λ earlier took.
+        log-ordered machine history follows next refl isThread (omega arith) place isCell noRace earlier
+        (took .isAccepted) (took .isSort .0) (took .isSort .1))
+        (λ isThread. held-with thread isThread (enterOf (logOf machine thread) (Store place (cachedAt (machine .cache) place))) refl)
+
+    log-kept : LogsNow machine history → Kept LOG
+    unfolding effect
+    log-kept logsNow fails =
+        let isThread = thread-in-range machine LOG thread place value fails in
+        let isCell = ltb-true place cellCount (not-false _ (place-in-range machine LOG thread place value fails)) in
+        let next = tookStep LOG thread place value in
+        log-cases
+        (λ stepped. Sized (stepped .machine) → Follows (stepped .machine) (andThen history next))
+        machine
+        thread
+        place
+        (first-log-kept fails)
+        (λ number isAt sized.
+        let now = logsNow thread place isThread number isAt in
+        log-follows machine fails sized refl refl (sym (recorded machine history follows thread place isThread isCell now))
+        (all-before machine history follows thread place isThread isCell now next refl refl) (λ isThread. follows .held))
+        (effect-sized machine (follows .sized) LOG thread place value fails)
 
     acquire-kept : Kept ACQUIRE
     unfolding effect acquireEffect stateTests acquireTests appendOf grownTail
@@ -331,20 +372,21 @@ module _ (machine : Machine) (history : List Fed) (follows : Follows machine his
         }
 
   -- each effect whose tests all failed keeps what the machine has to do with its history
-  pub effect-follows : (kind : Kind) (thread place value : ℕ) → AllFail (testsOf machine kind thread place value) →
+  pub effect-follows : LogsNow machine history → (kind : Kind) (thread place value : ℕ) →
+      AllFail (testsOf machine kind thread place value) →
       Follows (effect machine kind thread place value .machine) (andThen history (tookStep kind thread place value))
-  effect-follows LOAD thread place value fails = load-kept thread place value fails
-  effect-follows LOG thread place value fails = log-kept thread place value fails
-  effect-follows STORE thread place value fails = store-kept thread place value fails
-  effect-follows ACQUIRE thread place value fails = acquire-kept thread place value fails
-  effect-follows LOGREL thread place value fails = logRelease-kept thread place value fails
-  effect-follows RELEASE thread place value fails = release-kept thread place value fails
-  effect-follows FLUSH thread place value fails = flush-kept thread place value fails
-  effect-follows FLUSHLOG thread place value fails = flushLog-kept thread place value fails
-  effect-follows FENCE thread place value fails = fence-kept thread place value fails
-  effect-follows PRUNE thread place value fails = prune-kept thread place value fails
-  effect-follows EVICT thread place value fails = evict-kept thread place value fails
-  effect-follows EVICTLOG thread place value fails = evictLog-kept thread place value fails
+  effect-follows logsNow LOAD thread place value fails = load-kept thread place value fails
+  effect-follows logsNow LOG thread place value fails = log-kept thread place value logsNow fails
+  effect-follows logsNow STORE thread place value fails = store-kept thread place value fails
+  effect-follows logsNow ACQUIRE thread place value fails = acquire-kept thread place value fails
+  effect-follows logsNow LOGREL thread place value fails = logRelease-kept thread place value fails
+  effect-follows logsNow RELEASE thread place value fails = release-kept thread place value fails
+  effect-follows logsNow FLUSH thread place value fails = flush-kept thread place value fails
+  effect-follows logsNow FLUSHLOG thread place value fails = flushLog-kept thread place value fails
+  effect-follows logsNow FENCE thread place value fails = fence-kept thread place value fails
+  effect-follows logsNow PRUNE thread place value fails = prune-kept thread place value fails
+  effect-follows logsNow EVICT thread place value fails = evict-kept thread place value fails
+  effect-follows logsNow EVICTLOG thread place value fails = evictLog-kept thread place value fails
 
   -- a refused step keeps what the machine has to do with its history
   pub refused-follows : (next : Fed) → next .accepted ≡ false → Follows machine (andThen history next)
@@ -370,15 +412,3 @@ begin-follows cells logs all = record {
   accessed = accessed-start;
   held = begin-held logs all startClocks (replicate lockCount noClock);
 }
-
--- after every list of steps from a start call the clocks, accesses and locks are those of the history
-pub start-follows : (words : List ℕ) (steps : List Step) → Follows (machineAfter words steps) (historyAfter words steps)
-start-follows words steps =
-    run-keeps
-    Follows
-    refused-follows
-    effect-follows
-    (startMachine words)
-    []
-    (on-start (λ machine. Follows machine []) (λ cells isLength. begin-follows cells freshLogs fresh-all) words)
-    steps

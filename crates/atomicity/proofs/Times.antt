@@ -13,8 +13,8 @@ use Rattle.undo.specs.declared.Event.{Event}
 use Rattle.undo.specs.declared.Event.the-variants.{Empty, Store, Acquire, Release}
 use Rattle.undo.specs.declared.SyncCount.{SyncCount}
 use Rattle.atomicity.specs.History.{Fed, stepAt}
-use Rattle.atomicity.proofs.Logged.{Entries, Made, Is, Keeps, Appends, made-kept, kept-is, made-cases, is-cases}
-use Rattle.atomicity.proofs.Places.{lastOf, length-then, step-before, step-new, last-before}
+use Rattle.atomicity.proofs.Logged.{Entries, Made, Is, Grows, Keeps, Appends, made-kept, kept-is, made-cases, is-cases}
+use Rattle.atomicity.proofs.Places.{lastOf, length-then, step-before, step-new, last-was}
 use Rattle.atomicity.proofs.Ordered.{andThen}
 
 -- what an entry can say
@@ -34,12 +34,13 @@ stepKindOf (Acquire lock count) = 4
 stepKindOf (Release lock count) = 5
 
 -- the step at this place is the accepted one that made the entry
-pub record EntryStep (given : ℕ → ℕ) (history : List Fed) (thread number : ℕ) (event : Event) (place : ℕ) : Type 0 where
+pub record EntryStep (entries : Entries) (history : List Fed) (thread number : ℕ) (event : Event) (place : ℕ) : Type 0 where
   pub isAccepted : stepAt history place .accepted ≡ true
   pub isKind : stepAt history place .kind ≡ stepKindOf event
   pub isThread : stepAt history place .thread ≡ thread
   pub isPlace : stepAt history place .place ≡ placeOf event
-  pub isLast : lastOf given history place ≡ number
+  pub isLast : lastOf entries history place ≡ number
+  pub isMade : entries .made place ≡ true
 
 pub record TimesHold (history : List Fed) (entries : Entries) : Type 0 where
   pub past : (thread number : ℕ) → Made entries thread number → entries .time thread number < length history
@@ -47,17 +48,19 @@ pub record TimesHold (history : List Fed) (entries : Entries) : Type 0 where
       entries .time thread number < entries .time thread next
   pub formed : (thread number : ℕ) → Made entries thread number → Formed (entries .event thread number)
   pub entryStep : {thread number : ℕ} {event : Event} → Is entries thread number event
-      → EntryStep (entries .before) history thread number event (entries .time thread number)
+      → EntryStep entries history thread number event (entries .time thread number)
 
--- the step that made an entry stays it as the history grows
-entry-step-then : {given : ℕ → ℕ} {history : List Fed} {thread number place : ℕ} {event : Event} (fed : Fed) → place < length history
-    → EntryStep given history thread number event place → EntryStep given (andThen history fed) thread number event place
-entry-step-then {given} {history} fed before step = record {
+-- the step that made an entry stays it as history and entries grow
+entry-step-then : {old new : Entries} {history : List Fed} {thread number place : ℕ} {event : Event} (fed : Fed) →
+    Grows old new (length history) → place < length history → EntryStep old history thread number event place →
+    EntryStep new (andThen history fed) thread number event place
+entry-step-then {history = history} {place = place} fed grows before step = record {
   isAccepted = ap (λ (s : Fed). s .accepted) (step-before history fed before) ∙ step .isAccepted;
   isKind = ap (λ (s : Fed). s .kind) (step-before history fed before) ∙ step .isKind;
   isThread = ap (λ (s : Fed). s .thread) (step-before history fed before) ∙ step .isThread;
   isPlace = ap (λ (s : Fed). s .place) (step-before history fed before) ∙ step .isPlace;
-  isLast = last-before history fed given before ∙ step .isLast;
+  isLast = last-was history fed grows before ∙ step .isLast;
+  isMade = grows .madeSame place (λ same. omega arith) ∙ step .isMade;
 }
 
 pub times-keep : {history : List Fed} {old new : Entries} (fed : Fed) → Keeps old new (length history) →
@@ -75,8 +78,8 @@ times-keep {history} {old} {new} fed keeps holds = record {
       let was = made-kept keeps made in rw (keeps .grows .saysSame thread number was) (holds .formed thread number was);
   entryStep = λ {thread} {number} is.
       let was = kept-is keeps is in
-      rw (keeps .grows .beforeSame, keeps .grows .timeSame thread number (was .made))
-      (entry-step-then fed (holds .past thread number (was .made)) (holds .entryStep was));
+      rw (keeps .grows .timeSame thread number (was .made))
+      (entry-step-then fed (keeps .grows) (holds .past thread number (was .made)) (holds .entryStep was));
 }
 
 -- what a step that makes an entry is
@@ -87,7 +90,7 @@ pub record MakesEntry (history : List Fed) (fed : Fed) (old new : Entries) (thre
   pub isPlace : fed .place ≡ placeOf event
   pub isAccepted : fed .accepted ≡ true
   pub isThread : fed .thread ≡ thread
-  pub isLast : lastOf (new .before) (andThen history fed) (length history) ≡ old .next thread
+  pub isLast : lastOf new (andThen history fed) (length history) ≡ old .next thread
 
 module _ {history : List Fed} {fed : Fed} {old new : Entries} {thread : ℕ} {event : Event}
     (step : MakesEntry history fed old new thread event) (holds : TimesHold history old) where
@@ -128,8 +131,8 @@ module _ {history : List Fed} {fed : Fed} {old new : Entries} {thread : ℕ} {ev
     entryStep = λ {thread = other} {number} {event = says} is.
         ⊎-elim
         (λ was.
-        rw (step .appends .grows .beforeSame, step .appends .grows .timeSame other number (was .made))
-        (entry-step-then fed (holds .past other number (was .made)) (holds .entryStep was)))
+        rw (step .appends .grows .timeSame other number (was .made))
+        (entry-step-then fed (step .appends .grows) (holds .past other number (was .made)) (holds .entryStep was)))
         (λ at.
         rw (new-time {other = other} {number = number} (at .0, at .1)) (record {
           isAccepted = ap (λ (s : Fed). s .accepted) (step-new history fed) ∙ step .isAccepted;
@@ -137,6 +140,7 @@ module _ {history : List Fed} {fed : Fed} {old new : Entries} {thread : ℕ} {ev
           isThread = ap (λ (s : Fed). s .thread) (step-new history fed) ∙ (step .isThread ∙ sym (at .0));
           isPlace = ap (λ (s : Fed). s .place) (step-new history fed) ∙ (step .isPlace ∙ ap placeOf (sym (at .2)));
           isLast = step .isLast ∙ sym (at .1);
+          isMade = step .appends .madeNew;
         }))
         (is-cases (step .appends) is);
   }

@@ -18,7 +18,7 @@ use Rattle.atomicity.proofs.OldestLive.{prunedValue}
 use Rattle.atomicity.proofs.BookLaws.{written-committed, written-uncommitted, written-other, written-length}
 use Rattle.atomicity.proofs.Regions.{RegionsHold}
 
--- a cell's versions and the stores of all threads: a LOG of the cell makes a version, a STORE to it stands under the newest version's
+-- a cell's versions and the stores of all threads: an entry of the cell is a version, a STORE to it stands under the newest version's
 -- region and is what that version leaves, and a store to another cell is nothing to it
 pub data Tracks (home : ℕ → ℕ → ℕ) (start cell : ℕ) : List Version → List Write → Type 0 where
   nothing : Tracks home start cell [] []
@@ -144,7 +144,7 @@ pub writes-keep : {entries : Entries} {home after : ℕ → ℕ → ℕ} {conten
 writes-keep starts same holds writes =
     record { tracks = λ cell. rw (starts cell) (tracks-kept same (holds .chain cell) (writes .tracks cell)) }
 
--- a LOG of a cell keeps the stores in step with the versions
+-- a LOG that makes an entry keeps the stores in step with the versions
 pub writes-log : {old new : Entries} {now thread cell : ℕ} {home after : ℕ → ℕ → ℕ} {contents : Contents}
     {versions logs : ℕ → List Version} {stores : List Write} →
     LogsCell old new now thread cell contents versions logs →

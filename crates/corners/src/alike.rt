@@ -54,13 +54,27 @@ fn push(past: &mut [u64], accepted: usize, answer: Answer, step: Step) -> usize 
     accepted
 }
 
-// Counts a step's answer; and a LOG's that is refused by 8 beside a full log.
-fn note(met: &mut [u64; COUNTS], past: &[u64], kind: u64, thread: u64, answer: u64) {
+// Counts a LOG that is accepted and finds its cell with an entry in the current region.
+fn note_again(met: &mut [u64; COUNTS], past: &[u64], thread: u64, cell: u64) {
+    if model::has_entry(past, thread, cell) {
+        tally::add_again(
+            met,
+            model::is_stored_since_entry(past, thread, cell),
+            model::has_full_log(past, thread),
+        );
+    }
+}
+
+// Counts a step's answer; a LOG's that is refused by 8 beside a full log; and a LOG's that is accepted and makes no entry.
+fn note(met: &mut [u64; COUNTS], past: &[u64], kind: u64, thread: u64, place: u64, answer: u64) {
     tally::add_answer(met, kind, answer);
     if kind == LOG && answer == 8 {
         if model::has_full_log(past, thread) {
             tally::add_crowded(met);
         }
+    }
+    if kind == LOG && answer == 0 {
+        note_again(met, past, thread, place);
     }
 }
 
@@ -68,7 +82,7 @@ fn note(met: &mut [u64; COUNTS], past: &[u64], kind: u64, thread: u64, answer: u
 fn judged(past: &[u64], step: Step, answer: Answer, met: &mut [u64; COUNTS]) -> bool {
     let start = [START; CELLS];
     let number = answer::number(answer);
-    note(met, past, step.kind, step.thread, number);
+    note(met, past, step.kind, step.thread, step.place, number);
     let verdict = model::judge(&start, past, step.kind, step.thread, step.place, step.value);
     verdict.answer == number && verdict.number == answer::value(answer)
 }

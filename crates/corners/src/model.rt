@@ -1,6 +1,6 @@
-// A second writing of document 01, to be run beside the machine. It keeps document 01's own words (seen, kept, firm, mark, rank, closing),
-// so that it reads against that page alone, and names nothing of the machine. It keeps no state: every answer is worked out anew from the
-// start cells and the history of accepted steps, with whole logs, no clock and no counter.
+// A second writing of document 01, and of what document 02 changes in it, to be run beside the machine. It keeps document 01's own words
+// (seen, kept, firm, mark, rank, closing), so that it reads against these pages alone, and names nothing of the machine. It keeps no state:
+// every answer is worked out anew from the start cells and the history of accepted steps, with whole logs, no clock and no counter.
 //
 // `corners` compares answers, numbers given, whole images and recovered cells with the machine's. Every function here is proved to be safe
 // and to end; nothing else is promised of it.
@@ -18,7 +18,7 @@ pub(crate) struct Verdict {
     pub(crate) number: u64,
 }
 
-// What document 01 has a step answer after a history: the accepted steps in their order, four words each (kind, thread, place, value), to
+// What a step is to answer after a history: the accepted steps in their order, four words each (kind, thread, place, value), to
 // which the caller adds this one where the answer is 0. The number beside is 0 unless the step is accepted and its kind gives one.
 pub(crate) fn judge(
     start: &[u64],
@@ -41,6 +41,18 @@ pub(crate) fn judge(
 // After a history, the thread has 64 live entries.
 pub(crate) fn has_full_log(past: &[u64], thread: u64) -> bool {
     steps::is_full(past, thread, history::next_step(past))
+}
+
+// After a history, the cell has an entry in the thread's current region.
+pub(crate) fn has_entry(past: &[u64], thread: u64, cell: u64) -> bool {
+    logs::logged(past, thread, cell, history::next_step(past)) != 0
+}
+
+// After a history, the cell has an entry in the thread's current region, since which the thread stored to it.
+pub(crate) fn is_stored_since_entry(past: &[u64], thread: u64, cell: u64) -> bool {
+    let step = history::next_step(past);
+    let entry = logs::logged(past, thread, cell, step);
+    entry != 0 && entry < history::last(past, history::STORE, thread, cell, step)
 }
 
 // Writes the image of a cut after a history; 21, and the buffer as it was, where it is not of 1,156 words.

@@ -7,12 +7,16 @@ const ANSWERS: usize = 19;
 // Where the answers of recovery begin: those to images of cuts, then those to damaged images, five each.
 const RECOVERED: usize = 247;
 
-// The counts: of 13 kinds, "other" among them, times 19 answers; of twice five answers of recovery; and of LOGs that a full log would
-// refuse too.
-pub(crate) const COUNTS: usize = 258;
+// The counts: of 13 kinds, "other" among them, times 19 answers; of twice five answers of recovery; of LOGs that a full log would refuse
+// too; and three of accepted LOGs of a cell with an entry in the current region.
+pub(crate) const COUNTS: usize = 261;
 
-// The place of the last count: of LOGs that a full log would refuse too.
+// The place of the count of LOGs that a full log would refuse too.
 const CROWDED: usize = 257;
+
+// Where the counts of accepted LOGs of a cell with an entry in the current region begin: of all, of those after a STORE to the cell, and of
+// those with a full log.
+const AGAIN: usize = 258;
 
 // Counts one more.
 fn raise(met: &mut [u64; COUNTS], at: usize) {
@@ -51,6 +55,18 @@ pub(crate) fn add_crowded(met: &mut [u64; COUNTS]) {
     raise(met, CROWDED);
 }
 
+// Counts an accepted LOG of a cell with an entry in the current region, since which the cell was stored to, or was not; the log is full, or
+// is not.
+pub(crate) fn add_again(met: &mut [u64; COUNTS], is_stored: bool, is_full: bool) {
+    raise(met, AGAIN);
+    if is_stored {
+        raise(met, AGAIN + 1);
+    }
+    if is_full {
+        raise(met, AGAIN + 2);
+    }
+}
+
 // Counts an answer of recovery to an image of a cut or to a damaged one; 0 and 21 to 24 are 0 to 4 modulo 5.
 pub(crate) fn add_recovered(met: &mut [u64; COUNTS], is_damaged: bool, answer: u64) {
     let column = (answer % 5) as usize;
@@ -67,7 +83,7 @@ fn state_can_refuse(kind: u64, answer: u64) -> bool {
         return answer == 8;
     }
     if kind == history::LOG {
-        return 4 < answer && answer < 10;
+        return 4 < answer && answer < 9;
     }
     if kind == history::STORE {
         return answer == 7 || answer == 10 || answer == 11;
@@ -87,7 +103,7 @@ fn state_can_refuse(kind: u64, answer: u64) -> bool {
     kind == history::EVICTLOG && answer == 18
 }
 
-// Document 01 lets a step of the kind be answered so; 13 stands for any kind that is none.
+// The documents let a step of the kind be answered so; 13 stands for any kind that is none.
 fn can_answer(kind: u64, answer: u64) -> bool {
     if 12 < kind {
         return answer == 1;
@@ -101,7 +117,7 @@ fn can_answer(kind: u64, answer: u64) -> bool {
     answer == 0 || answer == 2 || state_can_refuse(kind, answer)
 }
 
-// The pair of a kind and an answer with this count is one that document 01 lets occur, or does not, and was met, or was not; 6 is left
+// The pair of a kind and an answer with this count is one that the documents let occur, or do not, and was met, or was not; 6 is left
 // out.
 fn is_such(met: &[u64; COUNTS], at: usize, is_allowed: bool, is_met: bool) -> bool {
     let answer = (at % ANSWERS) as u64;
@@ -119,7 +135,7 @@ fn one_more(number: u64, is_so: bool) -> u64 {
     if is_so { number % 1000000 + 1 } else { number }
 }
 
-// How many pairs of a kind and an answer document 01 lets occur, or does not, and were met, or were not.
+// How many pairs of a kind and an answer the documents let occur, or do not, and were met, or were not.
 fn pairs(met: &[u64; COUNTS], is_allowed: bool, is_met: bool) -> u64 {
     let mut found: u64 = 0;
     let mut at: usize = 0;
@@ -213,13 +229,22 @@ pub(crate) fn print(met: &[u64; COUNTS]) {
     );
     io::write_all(
         1,
-        b" pairs that document 01 lets occur, 6 left out, which needs 1,000,000 entries: ",
+        b" pairs that the documents let occur, 6 left out, which needs 1,000,000 entries: ",
     );
     io::print_decimal(1, pairs(met, true, false));
     io::write_all(1, b"\nother pairs that were met: ");
     io::print_decimal(1, pairs(met, false, true));
     io::write_all(1, b"\nLOGs refused by 8 that 5 would refuse too: ");
     io::print_decimal(1, count(met, CROWDED));
+    io::write_all(
+        1,
+        b"\naccepted LOGs of a cell with an entry in the current region: ",
+    );
+    io::print_decimal(1, count(met, AGAIN));
+    io::write_all(1, b"\nof these after a STORE to the cell: ");
+    io::print_decimal(1, count(met, AGAIN + 1));
+    io::write_all(1, b"\nof these with a full log: ");
+    io::print_decimal(1, count(met, AGAIN + 2));
     io::write_all(
         1,
         b"\nimages by recovery's answer, those of cuts and damaged ones:\n",

@@ -31,7 +31,8 @@ use Rattle.atomicity.specs.HappensBefore.{Accepted}
 use Rattle.laws.specs.RefusalLaws.{Took, Finished, released, followed, Unpruned, oldestFrom, OldestFinished, FinishedLaw}
 use Rattle.atomicity.proofs.Logged.{Entries, Made, IsReleaseOf}
 use Rattle.atomicity.proofs.BookLaws.{regionAt, First, NoneOf, isUncommittedOf, first-rest, first-or-none}
-use Rattle.laws.proofs.EntrySteps.{made-later, step-makes, step-joined, stands}
+use Rattle.atomicity.proofs.EntrySteps.{made-later, step-makes, stands}
+use Rattle.laws.proofs.JoinedSteps.{step-joined}
 use Rattle.atomicity.proofs.Locks.{Waits}
 use Rattle.atomicity.proofs.Places.{madeBy, made-grows}
 use Rattle.atomicity.proofs.RegionsPrune.{run-together, oldest-uncommitted}
@@ -150,7 +151,7 @@ module _ {start : Beginning} {machine : Machine} {history : List Fed} (runHolds 
 
   -- the thread's last LSN after the step at this place
   abbrev standsAt : ℕ → ℕ
-  standsAt place = madeBy (start .before) history thread (suc place)
+  standsAt place = madeBy entries history thread (suc place)
 
   -- the region in which the thread's entry of this LSN stands is finished
   abbrev EntryFinished : ℕ → Type 0
@@ -169,7 +170,7 @@ module _ {start : Beginning} {machine : Machine} {history : List Fed} (runHolds 
       let logrel = entries .time thread number in
       let step = runHolds .machineHolds .times .entryStep is in
       let isLogrel : Accepted history logrel 5 = record { isAccepted = step .isAccepted; isKind = step .isKind } in
-      let isMade = step-makes isLogrel (step .isThread) refl in
+      let isMade = step-makes (runHolds .machineHolds .places) (step .isMade) (step .isThread) in
       let found = runHolds .machineHolds .places .releasedBy is taken in
       let release = found .0 in
       let entry = runHolds .machineHolds .places .releaseAt (found .1) in
@@ -182,7 +183,7 @@ module _ {start : Beginning} {machine : Machine} {history : List Fed} (runHolds 
       (λ notBefore.
       by-cases
       (decLt release logrel)
-      (λ after. let more = made-later (start .before) history thread release logrel after isMade in absurd (omega arith))
+      (λ after. let more = made-later entries history thread release logrel after isMade in absurd (omega arith))
       (λ notAfter.
       let same : logrel ≡ release = omega (arith, notBefore, notAfter) in
       let one = step .isKind in
@@ -310,16 +311,17 @@ module _ {start : Beginning} {machine : Machine} {history : List Fed} (runHolds 
       by-way full (followed {step} {acquire} joined isThread later took) =
           let entry = joined-entry joined isThread in
           let live = live-entry (entry .0) (entry .1) (unpruned .notCommitted) in
-          let isMade = step-makes (took .isStep) (took .isThread) refl in
-          let more = made-later (start .before) history thread step acquire later isMade in
-          let stood = stands runHolds (took .isStep) (took .isThread) refl in
+          let places = runHolds .machineHolds .places in
+          let isMade = step-makes places (places .madeAt (took .isStep) (inl refl)) (took .isThread) in
+          let more = made-later entries history thread step acquire later isMade in
+          let stood = stands places (runHolds .machineHolds .times) (took .isStep) (took .isThread) (inl refl) in
           let begins = kind-begins (says (standsAt acquire)) (sym (stood .isKind) ∙ took .isStep .isKind) in
           let below = stood .made .below in
           absurd (true≢false (sym begins ∙ region .noAcquire (standsAt acquire) (omega arith) (omega arith)))
       by-way full (released {logrel} {release} joined isLogrel later took sameLock) =
           let entry = joined-entry joined (isLogrel .isThread) in
           let live = live-entry (entry .0) (entry .1) (unpruned .notCommitted) in
-          let onward = made-grows (start .before) history thread (suc logrel) (suc release) (omega arith) in
+          let onward = made-grows entries history thread (suc logrel) (suc release) (omega arith) in
           let found = release-entry took in
           let ends : isRelease (says (standsAt release)) ≡ true = ap isRelease (found .2 .says) in
           let below = found .2 .made .below in

@@ -19,11 +19,12 @@ use Rattle.locks.specs.Locks.{noLock, isHeld, isHeldBy, takenBy, freedOf, onePr
 use Rattle.locks.specs.declared.Holder.{Holder}
 use Rattle.locks.specs.declared.Holder.the-variants.{Nobody, Thread}
 use Rattle.locks.specs.declared.Lock.{Lock}
-use Rattle.machine.specs.Effects.{loadEffect, logEffect, storeEffect, acquireEffect, logReleaseEffect, releaseEffect, flushEffect}
+use Rattle.machine.specs.Effects.{loadEffect, firstLogEffect, storeEffect, acquireEffect, logReleaseEffect, releaseEffect, flushEffect}
 use Rattle.machine.specs.Effects.{flushLogEffect, fenceEffect, pruneEffect, evictEffect, evictLogEffect, effect}
 use Rattle.machine.specs.Holds.{logOf, lockOf}
 use Rattle.kinds.specs.Kinds.{Kind, LOAD, LOG, STORE, ACQUIRE, LOGREL, RELEASE, FLUSH, FLUSHLOG, FENCE, PRUNE, EVICT, EVICTLOG}
 use Rattle.machine.specs.declared.Machine.{Machine}
+use Rattle.machine.proofs.LogCases.{log-cases}
 use Rattle.machine.proofs.AcceptedMeans.{acquire-asked, release-asked}
 use Rattle.machine.proofs.StepLaws.{testsOf}
 use Rattle.machine.proofs.Beginnings.{freshLogs, fresh-all, lock-free, on-start}
@@ -261,9 +262,13 @@ module _ (machine : Machine) (history : List Fed) (hold : HoldersHold machine hi
         aside PRUNE (λ is. omega arith) (λ is. omega arith) (pruned-holder (machine .locks) (liveEvent log (oldestRegion log - 1)))
 
     effect-holders : (kind : Kind) → Kept kind
-    unfolding effect loadEffect logEffect storeEffect logReleaseEffect flushEffect flushLogEffect fenceEffect evictEffect evictLogEffect
+    unfolding effect loadEffect firstLogEffect storeEffect logReleaseEffect flushEffect flushLogEffect fenceEffect evictEffect
+        evictLogEffect
     effect-holders LOAD = aside LOAD (λ is. omega arith) (λ is. omega arith) (λ lock. refl)
-    effect-holders LOG = aside LOG (λ is. omega arith) (λ is. omega arith) (λ lock. refl)
+    effect-holders LOG =
+        aside LOG (λ is. omega arith) (λ is. omega arith)
+        (log-cases (λ stepped. (lock : ℕ) → lockOf (stepped .machine) lock .holder ≡ lockOf machine lock .holder) machine thread place
+        (λ isNowhere lock. refl) (λ number isAt lock. refl))
     effect-holders STORE = aside STORE (λ is. omega arith) (λ is. omega arith) (λ lock. refl)
     effect-holders ACQUIRE = acquire-holders
     effect-holders LOGREL = aside LOGREL (λ is. omega arith) (λ is. omega arith) (λ lock. refl)

@@ -26,12 +26,13 @@ use Rattle.log.proofs.SlotLaws.{slot-word, persist-other, run-elsewhere}
 use Rattle.undo.specs.Events.{endReleaseOf}
 use Rattle.kinds.specs.Kinds.{kindOf}
 use Rattle.kinds.specs.Kinds.{Kind, LOAD, LOG, STORE, ACQUIRE, LOGREL, RELEASE, FLUSH, FLUSHLOG, FENCE, PRUNE, EVICT, EVICTLOG}
-use Rattle.machine.specs.Effects.{effect, loadEffect, logEffect, storeEffect, acquireEffect, logReleaseEffect, releaseEffect}
+use Rattle.machine.specs.Effects.{effect, loadEffect, firstLogEffect, storeEffect, acquireEffect, logReleaseEffect, releaseEffect}
 use Rattle.machine.specs.Effects.{flushEffect, flushLogEffect, fenceEffect, pruneEffect, evictEffect, evictLogEffect}
 use Rattle.machine.specs.Holds.{noLog, logOf}
 use Rattle.machine.specs.Image.{imageOf}
 use Rattle.machine.specs.Runs.{Step, stepWith, Reached}
 use Rattle.machine.specs.declared.Machine.{Machine}
+use Rattle.machine.proofs.LogCases.{log-cases}
 use Rattle.machine.proofs.ImageWritten.{reads, cell-at, word-at}
 use Rattle.machine.proofs.Reaching.{after-then}
 use Rattle.machine.proofs.Sizes.{Sized, after-sized}
@@ -277,10 +278,17 @@ module _ (machine : Machine) (sized : Sized machine) (cacheSized : CacheLaws.Siz
   neither-fenced word = neither (isPendingWord (machine .cache) thread word) (isFlushedWord (logOf machine thread) thread word)
 
   effect-kept : (kind : Kind) → Kept (alteredBy machine (some kind) thread place) machine (effect machine kind thread place value .machine)
-  unfolding effect loadEffect logEffect storeEffect acquireEffect logReleaseEffect releaseEffect flushEffect flushLogEffect fenceEffect
+  unfolding effect loadEffect firstLogEffect storeEffect acquireEffect logReleaseEffect releaseEffect flushEffect flushLogEffect fenceEffect
       pruneEffect evictEffect evictLogEffect appendOf flushLogOf endReleaseOf alteredBy
   effect-kept LOAD = same-logs same-cells refl
-  effect-kept LOG = one-log same-cells thread inLogs _ refl (kept-all refl refl)
+  effect-kept LOG =
+      log-cases
+      (λ stepped. Kept (alteredBy machine (some LOG) thread place) machine (stepped .machine))
+      machine
+      thread
+      place
+      (λ isNowhere. one-log same-cells thread inLogs _ refl (kept-all refl refl))
+      (λ number isAt. same-logs same-cells refl)
   effect-kept STORE = same-logs (all-cells (CacheLaws.storeOf-persisted (machine .cache) cacheSized place value)) refl
   effect-kept ACQUIRE = one-log same-cells thread inLogs _ refl (kept-all refl refl)
   effect-kept LOGREL = one-log same-cells thread inLogs _ refl (kept-all refl refl)

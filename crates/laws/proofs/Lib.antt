@@ -1,13 +1,12 @@
 -- Proofs of what specs/ claims, in the groups and the order of docs/PROOF.md.
+-- refusal 16
+pub mod PrunedLaw
 -- refusals
-pub mod EntrySteps
+pub mod JoinedSteps
 pub mod HolderLaw
 pub mod LoggedLaw
+pub mod RepeatLaw
 pub mod FinishedLaw
--- refusal 16
-pub mod ReleaseSteps
-pub mod PrunedCounts
-pub mod PrunedLaw
 -- persisted contents
 pub mod KeptOnlyHolds
 -- log's sum

@@ -1,7 +1,7 @@
 -- The log's sum holds: each step changes the number of live entries by those that it appends and those that it frees.
 use Prim.Native.Nat.{ℕ, zero, suc, _+_, _-_, _<_, _≤_}
-use mathlib.Core.Path.{_≡_, refl}
-use mathlib.Core.Bool.{false, cond, _&&_, _||_}
+use mathlib.Core.Path.{_≡_, refl, sym, ap, subst}
+use mathlib.Core.Bool.{false, cond, not, _&&_, _||_}
 use mathlib.Core.List.{List, [], _∷_, map}
 use native.Mathlib.Omega.{arith}
 use lib.Dec.{eqb}
@@ -16,12 +16,13 @@ use Rattle.cache.specs.Cache.{cachedAt}
 use Rattle.log.specs.Entries.{liveCount, flushLogOf, fenceLogOf, evictSlotOf, dropOf, appendOf}
 use Rattle.undo.specs.Events.{enterOf, endReleaseOf}
 use Rattle.undo.specs.declared.Event.the-variants.{Store, Acquire, Release}
-use Rattle.undo.specs.Regions.{oldestRegion}
+use Rattle.undo.specs.Regions.{oldestRegion, isFound}
+use Rattle.undo.specs.declared.Found.{Found}
 use Rattle.tail.specs.Tail.{flushedTail, fencedTail, releasedTail}
 use Rattle.append.specs.Append.{grownTail}
 use Rattle.log.specs.declared.Log.{Log}
 use Rattle.region.proofs.OldestLaws.{region-live}
-use Rattle.machine.specs.Effects.{loadEffect, logEffect, storeEffect, acquireEffect, logReleaseEffect, releaseEffect, flushEffect}
+use Rattle.machine.specs.Effects.{loadEffect, firstLogEffect, storeEffect, acquireEffect, logReleaseEffect, releaseEffect, flushEffect}
 use Rattle.machine.specs.Effects.{flushLogEffect, fenceEffect, pruneEffect, evictEffect, evictLogEffect, effect}
 use Rattle.kinds.specs.Kinds.{Kind, LOAD, LOG, STORE, ACQUIRE, LOGREL, RELEASE, FLUSH, FLUSHLOG, FENCE, PRUNE, EVICT, EVICTLOG}
 use Rattle.machine.specs.Holds.{noLog, logOf, lockOf}
@@ -30,8 +31,9 @@ use Rattle.machine.specs.declared.Machine.{Machine}
 use Rattle.machine.specs.declared.Stepped.{Stepped}
 use Rattle.machine.proofs.Beginnings.{machineWith, AllIdle, each-log, freshLogs, fresh-all, on-start}
 use Rattle.machine.proofs.Sizes.{Sized, effect-sized, begin-sized}
+use Rattle.machine.proofs.LogCases.{log-cases}
 use Rattle.machine.proofs.StepLaws.{testsOf, step-cases}
-use Rattle.laws.specs.LogSum.{sum, freedBy, appendedBy, liveIn, LogSum}
+use Rattle.laws.specs.LogSum.{sum, freedBy, appends, appendedBy, liveIn, LogSum}
 use Rattle.atomicity.proofs.HistoryRuns.{kindNumber, kind-number, thread-in-range}
 use Rattle.answer.proofs.ListCases.{set-cases}
 use Rattle.atomicity.proofs.PruneKeeps.{prune-logs}
@@ -63,19 +65,23 @@ record Headed (machine : Machine) : Type 0 where
 abbrev freed : ℕ → Answer → ℕ
 freed kind answer = cond (eqb kind 10) (valueOf answer) 0
 
--- how many entries a step of this kind with this answer appends
-abbrev appended : ℕ → Answer → ℕ
-appended kind answer = cond (isAccepted answer && (eqb kind 2 || eqb kind 4 || eqb kind 5)) 1 0
+-- how many entries a step with this answer appends
+abbrev appended : Machine → Step → Answer → ℕ
+appended machine step answer = cond (isAccepted answer && appends machine step) 1 0
 
--- what a step of this kind leads to: what it freed and what is live now is what it appended and what was live
-record Balanced (machine : Machine) (kind : ℕ) (stepped : Stepped) : Type 0 where
+-- how many an accepted LOG appends, where the search for the cell's entry found this
+abbrev logAppends : Found → ℕ
+logAppends found = cond (not (isFound found) || false || false) 1 0
+
+-- what a step leads to: what it freed and what is live now is what it appended and what was live
+record Balanced (machine : Machine) (step : Step) (stepped : Stepped) : Type 0 where
   headed : Headed (stepped .machine)
-  balance : freed kind (stepped .answer) + liveIn (stepped .machine) ≡ appended kind (stepped .answer) + liveIn machine
+  balance : freed (step .kind) (stepped .answer) + liveIn (stepped .machine) ≡ appended machine step (stepped .answer) + liveIn machine
 
-module _ (machine : Machine) (headed : Headed machine) (kind : ℕ) (stepped : Stepped) (sized : Sized (stepped .machine)) where
+module _ (machine : Machine) (headed : Headed machine) (step : Step) (stepped : Stepped) (sized : Sized (stepped .machine)) where
   -- a step that changes no log keeps the balance, if it frees as many entries as it appends
   balanced-same : stepped .machine .logs ≡ machine .logs →
-      freed kind (stepped .answer) ≡ appended kind (stepped .answer) → Balanced machine kind stepped
+      freed (step .kind) (stepped .answer) ≡ appended machine step (stepped .answer) → Balanced machine step stepped
   balanced-same sameLogs sameCount = record {
     headed = record { sized = sized; headNext = λ thread. rw sameLogs (headed .headNext thread) };
     balance = rw (sameLogs, sameCount);
@@ -84,8 +90,8 @@ module _ (machine : Machine) (headed : Headed machine) (kind : ℕ) (stepped : S
   -- a step that changes one log keeps the balance, if it does so in that log
   balanced-log : (thread : ℕ) (log : Log) → thread < threadCount →
       stepped .machine .logs ≡ set (machine .logs) thread log → log .head .0 ≤ log .tail .next .0 →
-      freed kind (stepped .answer) + liveCount log ≡ appended kind (stepped .answer) + liveCount (logOf machine thread) →
-      Balanced machine kind stepped
+      freed (step .kind) (stepped .answer) + liveCount log ≡
+      appended machine step (stepped .answer) + liveCount (logOf machine thread) → Balanced machine step stepped
   balanced-log thread log inRange isSet headNext balance =
       let inLogs : thread < length (machine .logs) = rw (headed .sized .logs) inRange in
       record {
@@ -101,8 +107,9 @@ module _ (machine : Machine) (headed : Headed machine) (kind : ℕ) (stepped : S
 -- every effect keeps the balance
 effect-balanced : (machine : Machine) → Headed machine → (kind : Kind) (thread place value : ℕ) →
     AllFail (testsOf machine kind thread place value) →
-    Balanced machine (kindNumber kind) (effect machine kind thread place value)
-unfolding effect loadEffect logEffect storeEffect acquireEffect logReleaseEffect releaseEffect flushEffect
+    Balanced machine (record { kind = kindNumber kind; thread = thread; place = place; value = value })
+    (effect machine kind thread place value)
+unfolding effect loadEffect firstLogEffect storeEffect acquireEffect logReleaseEffect releaseEffect flushEffect
     flushLogEffect fenceEffect pruneEffect evictEffect evictLogEffect appendOf grownTail flushLogOf flushedTail
     endReleaseOf releasedTail fenceLogOf fencedTail evictSlotOf dropOf
 effect-balanced machine headed kind thread place value fails =
@@ -114,54 +121,70 @@ effect-balanced machine headed kind thread place value fails =
   where
     by-kind : (kind : Kind) → Sized (effect machine kind thread place value .machine) → thread < threadCount →
         logOf machine thread .head .0 ≤ logOf machine thread .tail .next .0 →
-        Balanced machine (kindNumber kind) (effect machine kind thread place value)
-    by-kind LOAD sized inRange order = balanced-same machine headed 1 _ sized refl refl
+        Balanced machine (record { kind = kindNumber kind; thread = thread; place = place; value = value })
+        (effect machine kind thread place value)
+    by-kind LOAD sized inRange order = balanced-same machine headed _ _ sized refl refl
     by-kind LOG sized inRange order =
-        balanced-log machine headed 2 _ sized thread
+        log-cases
+        (λ stepped. Sized (stepped .machine) →
+        Balanced machine (record { kind = 2; thread = thread; place = place; value = value }) stepped)
+        machine
+        thread
+        place
+        (λ isNowhere sized.
+        balanced-log machine headed _ _ sized thread
         (enterOf (logOf machine thread) (Store place (cachedAt (machine .cache) place))) inRange refl (omega arith)
-        (omega arith)
-    by-kind STORE sized inRange order = balanced-same machine headed 3 _ sized refl refl
+        (omega (arith, ap logAppends isNowhere)))
+        (λ number isAt sized. balanced-same machine headed _ _ sized refl (sym (ap logAppends isAt)))
+        sized
+    by-kind STORE sized inRange order = balanced-same machine headed _ _ sized refl refl
     by-kind ACQUIRE sized inRange order =
-        balanced-log machine headed 4 _ sized thread
+        balanced-log machine headed _ _ sized thread
         (enterOf (logOf machine thread) (Acquire place (lockOf machine place .count))) inRange refl (omega arith)
         (omega arith)
     by-kind LOGREL sized inRange order =
-        balanced-log machine headed 5 _ sized thread
+        balanced-log machine headed _ _ sized thread
         (enterOf (logOf machine thread) (Release place (lockOf machine place .count))) inRange refl (omega arith)
         (omega arith)
     by-kind RELEASE sized inRange order =
-        balanced-log machine headed 6 _ sized thread (endReleaseOf (logOf machine thread)) inRange refl order refl
-    by-kind FLUSH sized inRange order = balanced-same machine headed 7 _ sized refl refl
+        balanced-log machine headed _ _ sized thread (endReleaseOf (logOf machine thread)) inRange refl order refl
+    by-kind FLUSH sized inRange order = balanced-same machine headed _ _ sized refl refl
     by-kind FLUSHLOG sized inRange order =
-        balanced-log machine headed 8 _ sized thread (flushLogOf (logOf machine thread)) inRange refl order refl
+        balanced-log machine headed _ _ sized thread (flushLogOf (logOf machine thread)) inRange refl order refl
     by-kind FENCE sized inRange order =
-        balanced-log machine headed 9 _ sized thread (fenceLogOf (logOf machine thread)) inRange refl order refl
+        balanced-log machine headed _ _ sized thread (fenceLogOf (logOf machine thread)) inRange refl order refl
     by-kind PRUNE sized inRange order =
         let log = logOf machine thread in
         let most = region-live log in
-        balanced-log machine headed 10 _ sized thread (dropOf log (oldestRegion log)) inRange
+        balanced-log machine headed _ _ sized thread (dropOf log (oldestRegion log)) inRange
         (prune-logs machine thread place value) (omega arith) (omega arith)
-    by-kind EVICT sized inRange order = balanced-same machine headed 11 _ sized refl refl
+    by-kind EVICT sized inRange order = balanced-same machine headed _ _ sized refl refl
     by-kind EVICTLOG sized inRange order =
-        balanced-log machine headed 12 _ sized thread (evictSlotOf (logOf machine thread) place) inRange refl order refl
+        balanced-log machine headed _ _ sized thread (evictSlotOf (logOf machine thread) place) inRange refl order refl
 
 -- a refused step frees and appends nothing
-refusal-balance : (kind : ℕ) (answer : Answer) → isAccepted answer ≡ false → freed kind answer ≡ appended kind answer
-refusal-balance kind answer isRefusal = rw (isRefusal, beside-a-refusal answer isRefusal) (cond-same (eqb kind 10) 0)
+refusal-balance : (machine : Machine) (step : Step) (answer : Answer) → isAccepted answer ≡ false →
+    freed (step .kind) answer ≡ appended machine step answer
+refusal-balance machine step answer isRefusal =
+    rw (isRefusal, beside-a-refusal answer isRefusal) (cond-same (eqb (step .kind) 10) 0)
 
 -- every step keeps the balance
-step-balanced : (machine : Machine) → Headed machine → (step : Step) → Balanced machine (step .kind) (stepWith machine step)
+step-balanced : (machine : Machine) → Headed machine → (step : Step) → Balanced machine step (stepWith machine step)
 step-balanced machine headed step =
     step-cases
     machine
-    (Balanced machine (step .kind))
-    (λ answer isRefusal. record { headed = headed; balance = rw (refusal-balance (step .kind) answer isRefusal) })
+    (Balanced machine step)
+    (λ answer isRefusal. record { headed = headed; balance = rw (refusal-balance machine step answer isRefusal) })
     (step .kind)
     (step .thread)
     (step .place)
     (step .value)
     (λ kind isKind fails.
-    rw (kind-number (step .kind) kind isKind)
+    subst
+    (λ (number : ℕ).
+    Balanced machine (record { kind = number; thread = step .thread; place = step .place; value = step .value })
+    (effect machine kind (step .thread) (step .place) (step .value)))
+    (sym (kind-number (step .kind) kind isKind))
     (effect-balanced machine headed kind (step .thread) (step .place) (step .value) fails))
 
 -- every list of steps keeps the balance

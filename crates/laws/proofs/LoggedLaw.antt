@@ -1,7 +1,7 @@
--- The law on refusals 9 and 10: the machine finds a cell's entry in a thread's current region exactly when an accepted LOG of the cell
--- joined the region that the reference model has open for the thread.
+-- The law on refusal 10, and on which LOGs append nothing: the machine finds a cell's entry in a thread's current region exactly when an
+-- accepted LOG of the cell joined the region that the reference model has open for the thread.
 use Prim.Native.Nat.{ℕ, suc, _-_, _≤_, _<_}
-use native.Mathlib.Decide.{ℕ-discrete}
+use native.Mathlib.Decide.{decLt, ℕ-discrete}
 use native.Mathlib.Omega.{arith}
 use mathlib.Core.Path.{_≡_, refl, sym, ap, _∙_}
 use mathlib.Core.Bool.{Bool, true, false, false≢true}
@@ -9,28 +9,24 @@ use mathlib.Core.List.{List}
 use mathlib.Core.Logic.{inl, inr, ⊎-elim, by-cases}
 use Rattle.sizes.specs.Sizes.{threadCount}
 use Rattle.log.specs.declared.Log.{Log}
-use Rattle.undo.specs.Events.{placeOf}
 use Rattle.undo.specs.Regions.{loggedOf, isFound}
-use Rattle.undo.specs.declared.Event.{Event}
-use Rattle.undo.specs.declared.Event.the-variants.{Empty, Store, Acquire, Release}
 use Rattle.undo.specs.declared.Found.{Found}
 use Rattle.undo.specs.declared.Found.the-variants.{Nowhere, At}
-use Rattle.undo.proofs.LoggedLaws.{logged-at}
 use Rattle.machine.specs.declared.Machine.{Machine}
 use Rattle.reference.specs.Reference.{Region}
 use Rattle.atomicity.specs.History.{Fed, stepAt}
 use Rattle.laws.specs.RefusalLaws.{Logged, LoggedLaw}
-use Rattle.atomicity.proofs.Logged.{Entries, Made, Is}
+use Rattle.atomicity.proofs.Logged.{Entries, Made}
 use Rattle.atomicity.proofs.BookLaws.{regionAt}
 use Rattle.atomicity.proofs.Cells.{NoBoundaryAfter}
-use Rattle.laws.proofs.EntrySteps.{step-joined, stands}
-use Rattle.atomicity.proofs.Places.{madeBy}
+use Rattle.laws.proofs.JoinedSteps.{step-joined}
+use Rattle.atomicity.proofs.Places.{LogStands, madeBy}
 use Rattle.atomicity.proofs.Regions.{RegionsHold, Unended, Boundary, open-current, open-is, open-is-none, unended-or-not}
-use Rattle.atomicity.proofs.Times.{stepKindOf}
 use Rattle.atomicity.proofs.LogViews.{logAt}
 use Rattle.atomicity.proofs.RunInvariant.{RunInvariant, bookOf}
 use Rattle.atomicity.proofs.RunInvariantHolds.{after-run}
 use Rattle.atomicity.proofs.MachineInvariant.{Beginning, entriesOf}
+use Rattle.atomicity.proofs.QuietStepsKeep.{logged-entry}
 use Rattle.atomicity.proofs.AppendsKeep.{nowhere-current}
 
 -- where an entry stands in the region of a later one, no region begins or ends between them
@@ -66,13 +62,6 @@ module _ {entries : Entries} {regions : List Region} {home : ℕ → ℕ → ℕ
             (λ before. not-true (λ ends. no-boundary later (omega arith) (omega (arith, before)) (inl ends))),
       )
 
--- an entry that a LOG (2) makes is a STORE of its cell
-a-store : (event : Event) (cell : ℕ) → stepKindOf event ≡ 2 → placeOf event ≡ cell → (old : ℕ) × (event ≡ Store cell old)
-a-store Empty cell isKind isPlace = absurd (omega arith)
-a-store (Store logged old) cell isKind isPlace = (old, ap (λ (place : ℕ). Store place old) isPlace)
-a-store (Acquire lock count) cell isKind isPlace = absurd (omega arith)
-a-store (Release lock count) cell isKind isPlace = absurd (omega arith)
-
 module _ {start : Beginning} {machine : Machine} {history : List Fed} (runHolds : RunInvariant start machine history) (thread cell : ℕ)
     (inRange : thread < threadCount) where
   abbrev entries : Entries
@@ -84,25 +73,15 @@ module _ {start : Beginning} {machine : Machine} {history : List Fed} (runHolds 
   logged-only : (found : Found) → loggedOf log cell ≡ found → isFound found ≡ true → Logged (start .cells) history thread cell
   logged-only Nowhere is isFound = absurd (false≢true isFound)
   logged-only (At number) is isFound =
-      let at = logged-at log (runHolds .ghost .event thread) (runHolds .machineHolds .logs thread inRange) cell (number .0) is in
-      let since = runHolds .machineHolds .begins thread inRange in
-      let from = at .loggedFrom in
-      let entry : Is entries thread (number .0) (Store cell (at .old)) = record {
-        made = record { since = omega arith; below = at .loggedTo };
-        says = at .storeIs;
-      } in
-      let noBoundary : NoBoundaryAfter entries thread (number .0) = λ later after made. (
-        at .noAcquireAfter later after (made .below),
-        at .noReleaseAfter later after (made .below),
-      ) in
-      let step = runHolds .machineHolds .times .entryStep entry in
+      let found = logged-entry (runHolds .machineHolds) thread cell 0 inRange number is in
+      let step = runHolds .machineHolds .times .entryStep (found .1) in
       record {
         region = runHolds .home thread (number .0);
-        isOpen = open-current (bookOf start history) (runHolds .regions) entry noBoundary;
+        isOpen = open-current (bookOf start history) (runHolds .regions) (found .1) (found .2);
         place = entries .time thread (number .0);
         isLog = record { isAccepted = step .isAccepted; isKind = step .isKind };
         isCell = step .isPlace;
-        isJoined = step-joined runHolds (entry .made);
+        isJoined = step-joined runHolds (found .1 .made);
       }
 
   logged-always : (found : Found) → loggedOf log cell ≡ found → Logged (start .cells) history thread cell → isFound found ≡ true
@@ -124,14 +103,15 @@ module _ {start : Beginning} {machine : Machine} {history : List Fed} (runHolds 
           let ownerLast = runHolds .regions .owner (unended .made) in
           let isThread : stepAt history place .thread ≡ thread =
           sym owner ∙ (ap (λ (place : ℕ). regionAt (bookOf start history .regions) place .thread) (made .1 ∙ same) ∙ ownerLast) in
-          let stood = stands runHolds (logged .isLog) isThread refl in
-          let number = madeBy (start .before) history thread (suc place) in
-          let isKind = sym (stood .isKind) ∙ logged .isLog .isKind in
-          let says = a-store (entries .event thread number) cell isKind (sym (stood .isPlace) ∙ logged .isCell) in
-          let entry : Is entries thread number (Store cell (says .0)) = record { made = stood .made; says = says .1 } in
-          let home : runHolds .home thread number ≡ logged .region = rw isThread at (made .1) in
-          let current = current-entry (runHolds .regions) (entry .made) unended (home ∙ same) in
-          nowhere-current (runHolds .machineHolds) thread cell 0 {old = says .0} inRange is entry current
+          let stood : LogStands entries thread (madeBy entries history thread (suc place)) cell =
+          rw (isThread, logged .isCell) at (runHolds .machineHolds .places .logAt (logged .isLog)) in
+          let home : runHolds .home thread (madeBy entries history thread (suc place)) ≡ logged .region = rw isThread at (made .1) in
+          let current = current-entry (runHolds .regions) (stood .isLast) unended (home ∙ same) in
+          nowhere-current (runHolds .machineHolds) thread cell 0 inRange is (stood .isEntry) (λ later after madeLater.
+          by-cases
+          (decLt (madeBy entries history thread (suc place)) later)
+          (λ beyond. current later beyond madeLater)
+          (λ notBeyond. stood .noBoundary later after (omega (arith, notBeyond))))
 
 pub logged-law : LoggedLaw
 logged-law words steps thread cell inRange =

@@ -1,4 +1,4 @@
--- The laws on refusals 9, 10, 12, 13, 15 and 16, on what alters an image, and the log's sum.
+-- The laws on refusals 10, 12, 13, 15 and 16, on LOGs that append nothing, on what alters an image, and the log's sum.
 pub mod RefusalLaws
 pub mod PrunedRegions
 pub mod KeptOnly

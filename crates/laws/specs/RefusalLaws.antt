@@ -1,4 +1,4 @@
--- Refusals 9, 10, 12, 13 and 15 by document 01's words, over the history and the reference model that was fed it, and the laws that the
+-- Refusals 10, 12, 13 and 15 by document 01's words, over the history and the reference model that was fed it, and the laws that the
 -- machine's tests decide them.
 use Prim.Native.Nat.{ℕ, suc, _<_}
 use mathlib.Core.Path.{_≡_}
@@ -7,8 +7,10 @@ use mathlib.Core.List.{List, [], _∷_}
 use mathlib.Core.Option.{Option, none, some}
 use lib.Dec.{eqb}
 use Rattle.sizes.specs.Sizes.{threadCount}
+use Rattle.cache.specs.Cache.{cellCount}
 use Rattle.undo.specs.Regions.{isLogged, isFinished}
 use Rattle.locks.specs.Locks.{isHeld, isHeldBy}
+use Rattle.machine.specs.Clocks.{logRaces}
 use Rattle.machine.specs.Holds.{logOf, lockOf}
 use Rattle.machine.specs.Runs.{Step}
 use Rattle.reference.specs.Reference.{Region, emptyBook, openOf, isCommittedAt}
@@ -29,12 +31,21 @@ pub record Logged (cells : List ℕ) (history : List Fed) (thread cell : ℕ) : 
   pub isCell : stepAt history place .place ≡ cell
   pub isJoined : Joined cells history place region
 
--- the law on refusals 9 and 10: "the cell has, or has not, an entry in this thread's current region"
+-- the law on refusal 10, and on which LOG appends nothing: "the cell has, or has not, an entry in this thread's current region"
 abbrev pub LoggedLaw : Type 0
 LoggedLaw =
     (words : List ℕ) (steps : List Step) (thread cell : ℕ) →
     thread < threadCount →
     Decides (isLogged (logOf (machineAfter words steps) thread) cell) (Logged (startCells words) (historyAfter words steps) thread cell)
+
+-- the law on a LOG of a cell with an entry in the current region: it would not race, so that its acceptance without 8 lets no race pass
+abbrev pub RepeatLaw : Type 0
+RepeatLaw =
+    (words : List ℕ) (steps : List Step) (thread cell : ℕ) →
+    thread < threadCount →
+    cell < cellCount →
+    isLogged (logOf (machineAfter words steps) thread) cell ≡ true →
+    logRaces (machineAfter words steps) thread cell ≡ false
 
 -- the step at this place is an accepted one of this kind, of this lock
 pub record OfLock (history : List Fed) (place kind lock : ℕ) : Type 0 where

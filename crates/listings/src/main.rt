@@ -1,6 +1,6 @@
 // Marks each listing that an argument names, NAME.listing, and compares what it prints, byte by byte, with the stored NAME.transcript.
 // Then prints how often each kind of step met each answer, counted from the listings and the stored transcripts. These come from elsewhere
-// (data/README.md): where a later request changes what is printed, it brings the new ones with its own vectors.
+// (data/README.md), and never from what is printed here.
 ghost use Prim.Native.Nat.{_≤_, _<_};
 ghost use Rattle.io.specs.Counts.{Counts};
 use line::Line;

@@ -1,12 +1,13 @@
 -- What it means, kind by kind, that every test of a step failed: what an accepted step's fields and the machine before it are like.
 use Prim.Native.Nat.{ℕ, _+_, _-_, _≤_, _<_}
-use mathlib.Core.Path.{_≡_, refl, ap}
+use mathlib.Core.Path.{_≡_, refl, ap, subst}
 use mathlib.Core.Bool.{true, false, not, true≢false}
 use lib.Dec.{ltb, eqb}
 use borrow.Author.Tests.{ltb-true, ltb-false, eqb-true, not-false}
 use Rattle.sizes.specs.Sizes.{threadCount, lockCount}
 use Rattle.answer.specs.Lists.{someBelow}
-use Rattle.answer.proofs.RefusalLaws.{AllFail}
+use Rattle.answer.specs.Refusals.{guarded}
+use Rattle.answer.proofs.RefusalLaws.{AllFail, guarded-asked}
 use Rattle.undo.specs.Events.{liveEvent}
 use Rattle.log.specs.Entries.{appendTests, isLiveSlot, evictSlotTests}
 use Rattle.undo.specs.Regions.{loggedOf, oldestRegion, isFinished, isFound, isUndurableFound}
@@ -18,7 +19,8 @@ use Rattle.log.specs.declared.Log.{Log}
 use Rattle.tail.specs.declared.Releasing.{Releasing}
 use Rattle.tail.specs.declared.Releasing.the-variants.{Nothing, Lock}
 use Rattle.machine.specs.Clocks.{loadRaces, logRaces}
-use Rattle.machine.specs.Holds.{logOf, lockOf}
+use Rattle.accesses.specs.Logs.{firstLogTests}
+use Rattle.machine.specs.Holds.{logOf, lockOf, clockOf}
 use Rattle.locks.specs.Locks.{isHeld, isHeldBy}
 use Rattle.kinds.specs.Kinds.{LOAD, LOG, STORE, ACQUIRE, LOGREL, RELEASE, FLUSH, FLUSHLOG, FENCE, PRUNE, EVICT, EVICTLOG, inputTests}
 use Rattle.locks.specs.LockSteps.{releaseTests}
@@ -51,10 +53,6 @@ held-by-thread : (holder : Holder) (thread : ℕ) → not (isHeldBy holder threa
 held-by-thread Nobody thread fails = absurd (true≢false fails)
 held-by-thread (Thread holder) thread fails = ap Thread (eqb-true holder thread (not-false (eqb holder thread) fails))
 
-found-nowhere : (found : Found) → isFound found ≡ false → found ≡ Nowhere
-found-nowhere Nowhere fails = refl
-found-nowhere (At number) fails = absurd (true≢false fails)
-
 found-durable : (log : Log) (found : Found) → not (isFound found) ≡ false → isUndurableFound log found ≡ false
     → (number : ℕ) × (found ≡ At (lsn number)) × (number ≤ log .tail .durable .0)
 found-durable log Nowhere isFound isDurable = absurd (true≢false isFound)
@@ -76,27 +74,37 @@ load-asked machine thread cell value fails = record {
   noRace = fails .1 .1 .1 .0;
 }
 
+-- of every LOG
 pub record LogAsked (machine : Machine) (thread cell value : ℕ) : Type 0 where
   pub inThread : thread < threadCount
   pub inCell : cell < 128
   pub noValue : value ≡ 0
   pub notReleasing : logOf machine thread .tail .releasing ≡ Nothing
-  pub notLogged : loggedOf (logOf machine thread) cell ≡ Nowhere
-  pub noRace : logRaces machine thread cell ≡ false
-  pub room : AllFail (appendTests (logOf machine thread))
 
 pub log-asked : (machine : Machine) (thread cell value : ℕ) → AllFail (testsOf machine LOG thread cell value)
     → LogAsked machine thread cell value
-unfolding inputTests stateTests logTests logRaces
+unfolding inputTests stateTests logTests
 log-asked machine thread cell value fails = record {
   inThread = below-bound thread threadCount (fails .0);
   inCell = below-bound cell 128 (fails .1 .0);
   noValue = is-zero value (fails .1 .1 .0);
   notReleasing = releases-nothing (logOf machine thread .tail .releasing) (fails .1 .1 .1 .0);
-  notLogged = found-nowhere (loggedOf (logOf machine thread) cell) (fails .1 .1 .1 .1 .0);
-  noRace = fails .1 .1 .1 .1 .1 .0;
-  room = fails .1 .1 .1 .1 .1 .1;
 }
+
+-- of a LOG that makes an entry
+pub record FirstLogAsked (machine : Machine) (thread cell : ℕ) : Type 0 where
+  pub noRace : logRaces machine thread cell ≡ false
+  pub room : AllFail (appendTests (logOf machine thread))
+
+pub first-log-asked : (machine : Machine) (thread cell value : ℕ) → AllFail (testsOf machine LOG thread cell value)
+    → loggedOf (logOf machine thread) cell ≡ Nowhere → FirstLogAsked machine thread cell
+unfolding inputTests stateTests logTests logRaces
+first-log-asked machine thread cell value fails isNowhere =
+    let tests = firstLogTests (logOf machine thread) (machine .accesses) (clockOf machine thread) cell in
+    let asked : AllFail (guarded true tests) =
+    subst (λ (found : Found). AllFail (guarded (not (isFound found)) tests)) isNowhere (fails .1 .1 .1 .1) in
+    let own : AllFail tests = subst AllFail (guarded-asked tests) asked in
+    record { noRace = own .0; room = own .1 }
 
 pub record StoreAsked (machine : Machine) (thread cell : ℕ) : Type 0 where
   pub inThread : thread < threadCount

@@ -27,8 +27,8 @@ use Rattle.log.proofs.LogInvariant.{append-room}
 use Rattle.region.proofs.OldestLaws.{region-live, finished-some}
 use Rattle.clocks.specs.Clocks.{clockAt, joinOf, raisedOf, noClock, startClocks}
 use Rattle.accesses.specs.Accesses.{loadedOf, loggedCellOf}
-use Rattle.machine.specs.Effects.{loadEffect, logEffect, storeEffect, acquireEffect, logReleaseEffect, releaseEffect, flushEffect}
-use Rattle.machine.specs.Effects.{flushLogEffect, fenceEffect, pruneEffect, evictEffect, evictLogEffect, effect}
+use Rattle.machine.specs.Effects.{loadEffect, firstLogEffect, storeEffect, acquireEffect, logReleaseEffect, releaseEffect}
+use Rattle.machine.specs.Effects.{flushEffect, flushLogEffect, fenceEffect, pruneEffect, evictEffect, evictLogEffect, effect}
 use Rattle.locks.specs.Locks.{prunedLocks, noLock}
 use Rattle.machine.specs.Holds.{noLog, logOf, lockOf, clockOf, lockClockOf, startOf}
 use Rattle.kinds.specs.Kinds.{Kind, LOAD, LOG, STORE, ACQUIRE, LOGREL, RELEASE, FLUSH, FLUSHLOG, FENCE, PRUNE, EVICT, EVICTLOG}
@@ -36,8 +36,9 @@ use Rattle.machine.specs.Runs.{Step, after, Reached}
 use Rattle.clocks.specs.declared.Clock.{Clock}
 use Rattle.locks.specs.declared.Lock.{Lock as LockState}
 use Rattle.machine.specs.declared.Machine.{Machine}
-use Rattle.machine.proofs.AcceptedMeans.{log-asked, acquire-asked, log-release-asked, release-asked, flush-log-asked, fence-asked}
-use Rattle.machine.proofs.AcceptedMeans.{prune-asked, evict-log-asked}
+use Rattle.machine.proofs.AcceptedMeans.{log-asked, first-log-asked, acquire-asked, log-release-asked, release-asked}
+use Rattle.machine.proofs.AcceptedMeans.{flush-log-asked, fence-asked, prune-asked, evict-log-asked}
+use Rattle.machine.proofs.LogCases.{log-cases}
 use Rattle.machine.proofs.Beginnings.{machineWith, AllIdle, each-log, releases-nothing, lock-free, freshLogs, fresh-all, on-start}
 use Rattle.clocks.proofs.ClockLaws.{clockAt-join, clockAt-raised-other, clockAt-raised-own, clockAt-none, start-raised}
 use Rattle.machine.proofs.Sizes.{Sized, effect-sized, begin-sized}
@@ -262,17 +263,25 @@ pruned-locks locks (Release held count) lock = changed-lock locks held _ 0 1 (om
 
 pub effect-counted : (machine : Machine) → Counted machine → (kind : Kind) (thread place value : ℕ)
     → AllFail (testsOf machine kind thread place value) → Counted (effect machine kind thread place value .machine)
-unfolding effect loadEffect logEffect storeEffect acquireEffect logReleaseEffect releaseEffect flushEffect
+unfolding effect loadEffect firstLogEffect storeEffect acquireEffect logReleaseEffect releaseEffect flushEffect
     flushLogEffect fenceEffect pruneEffect evictEffect evictLogEffect loadedOf loggedCellOf flushLogOf flushedTail
     endReleaseOf releasedTail fenceLogOf fencedTail evictSlotOf
 effect-counted machine counted LOAD thread place value fails =
     counted-same machine _ counted (effect-sized machine (counted .sized) LOAD thread place value fails) refl refl refl refl
 effect-counted machine counted LOG thread place value fails =
-    let asked = log-asked machine thread place value fails in
-    counted-log machine _ counted (effect-sized machine (counted .sized) LOG thread place value fails) thread _ 0 0
-    (asked .inThread)
-    (append-pays (logOf machine thread) (Store place (cachedAt (machine .cache) place)) (asked .room) (counted .headBound thread))
-    (λ lock. stays (lockOf machine lock)) refl refl refl
+    log-cases
+    (λ stepped. Sized (stepped .machine) → Counted (stepped .machine))
+    machine
+    thread
+    place
+    (λ isNowhere sized.
+    let room = first-log-asked machine thread place value fails isNowhere .room in
+    counted-log machine _ counted sized thread _ 0 0
+    (log-asked machine thread place value fails .inThread)
+    (append-pays (logOf machine thread) (Store place (cachedAt (machine .cache) place)) room (counted .headBound thread))
+    (λ lock. stays (lockOf machine lock)) refl refl refl)
+    (λ number isAt sized. counted)
+    (effect-sized machine (counted .sized) LOG thread place value fails)
 effect-counted machine counted STORE thread place value fails =
     counted-same machine _ counted (effect-sized machine (counted .sized) STORE thread place value fails) refl refl refl refl
 effect-counted machine counted ACQUIRE thread place value fails =

@@ -1,4 +1,5 @@
 -- Laws about steps, and what holds of every machine that a list of steps leads to.
+pub mod LogCases
 pub mod StepLaws
 pub mod Inputs
 pub mod Beginnings

@@ -3,8 +3,9 @@
 use Prim.Native.Nat.{ℕ, zero, _-_}
 use native.Mathlib.Omega.{arith}
 use mathlib.Core.Path.{_≡_, refl, sym, ap, _∙_}
-use mathlib.Core.List.{[]}
+use mathlib.Core.List.{List, []}
 use mathlib.Core.Option.{some}
+use lib.Seq.{set-getD}
 use Rattle.answer.specs.Answer.{numberOf}
 use Rattle.answer.specs.Refusals.{unless, firstRefusal}
 use Rattle.answer.specs.declared.Answer.{Answer}
@@ -13,15 +14,18 @@ use Rattle.answer.proofs.RefusalLaws.{AllFail, not-zero, unless-both}
 use Rattle.cache.specs.Cache.{cachedAt}
 use Rattle.log.specs.Entries.{evictSlotOf, evictedOf, dropOf}
 use Rattle.log.specs.declared.Changed.{Changed}
+use Rattle.log.specs.declared.Log.{Log}
 use Rattle.undo.specs.Events.{liveEvent, enterOf, endReleaseOf, placeOf}
-use Rattle.undo.specs.Regions.{oldestRegion, storeTestsOn}
-use Rattle.undo.specs.declared.Event.the-variants.{Store, Acquire, Release}
+use Rattle.undo.specs.Regions.{oldestRegion, loggedOf, storeTestsOn}
+use Rattle.undo.specs.declared.Event.the-variants.{Acquire, Release}
+use Rattle.undo.specs.declared.Found.{Found}
+use Rattle.undo.specs.declared.Found.the-variants.{Nowhere, At}
 use Rattle.kinds.specs.Kinds.{Kind, LOAD, LOG, STORE, ACQUIRE, LOGREL, RELEASE, FLUSH, FLUSHLOG, FENCE, PRUNE, EVICT, EVICTLOG, kindOf}
 use Rattle.kinds.specs.Kinds.{inputAnswer}
 use Rattle.clocks.specs.Clocks.{clockAt, joinOf, raiseOf}
-use Rattle.accesses.specs.Accesses.{loadedOf, loggedCellOf}
+use Rattle.accesses.specs.Accesses.{loadedOf}
 use Rattle.accesses.specs.Loads.{loadOn}
-use Rattle.accesses.specs.Logs.{logOn}
+use Rattle.accesses.specs.Logs.{logOn, loggedAt}
 use Rattle.accesses.specs.declared.Loaded.{Loaded}
 use Rattle.accesses.specs.declared.Logged.{Logged}
 use Rattle.clocks.proofs.ClockLaws.{raise-grows}
@@ -31,10 +35,10 @@ use Rattle.locks.specs.declared.Handed.{Handed}
 use Rattle.locks.proofs.LockLaws.{free-grows, counted-grows}
 use Rattle.prune.specs.Pruning.{pruneOn}
 use Rattle.prune.specs.declared.Pruned.{Pruned}
-use Rattle.machine.specs.Effects.{effect, loadEffect, logEffect, storeEffect, acquireEffect, logReleaseEffect, releaseEffect}
-use Rattle.machine.specs.Effects.{pruneEffect, evictLogEffect}
-use Rattle.machine.specs.Holds.{logOf, lockOf, clockOf, lockClockOf, withLog, withLocks, withLock, withClock, withLockClock}
-use Rattle.machine.specs.Holds.{withAccesses}
+use Rattle.machine.specs.Effects.{accepted, effect, loadEffect, firstLogEffect, logEffectAt, logEffect, storeEffect}
+use Rattle.machine.specs.Effects.{acquireEffect, logReleaseEffect, releaseEffect, pruneEffect, evictLogEffect}
+use Rattle.machine.specs.Holds.{noLog, logOf, lockOf, clockOf, lockClockOf, withLog, withLocks, withLock, withClock}
+use Rattle.machine.specs.Holds.{withLockClock, withAccesses}
 use Rattle.machine.specs.Refusals.{stateTests, loadTests, logTests, storeTests, acquireTests, logReleaseTests}
 use Rattle.machine.specs.Steps.{refused, stepOf}
 use Rattle.machine.specs.declared.Machine.{Machine}
@@ -110,13 +114,42 @@ module _ (machine : Machine) (thread place : ℕ) where
       refl
       (λ fails. refl)
 
+  -- a LOG that leaves these parts
+  abbrev afterLog : Logged → Stepped
+  afterLog logged = record { answer = logged .answer; machine = withAccesses (withLog machine thread (logged .log)) (logged .accesses) }
+
+  -- what an accepted LOG leaves of the log and the accesses; where the cell's entry was found, they are put back as they were
+  abbrev logLeaves : Found → Logged
+  logLeaves found =
+      loggedAt found (logOf machine thread) (machine .accesses) (clockOf machine thread) thread place (cachedAt (machine .cache) place)
+
+  log-accepted : (found : Found) → numberOf (logLeaves found .answer) ≡ 0
+  log-accepted Nowhere = refl
+  log-accepted (At number) = refl
+
+  log-put : (found : Found) → afterLog (logLeaves found) ≡ logEffectAt found machine thread place
+  unfolding firstLogEffect
+  log-put Nowhere = refl
+  log-put (At number) =
+      ap (λ (logs : List Log). accepted (number .0) (withLogs logs)) (set-getD (machine .logs) thread noLog)
+    where
+      withLogs : List Log → Machine
+      withLogs logs = record {
+        cache = machine .cache;
+        logs = logs;
+        clocks = machine .clocks;
+        «lock_clocks» = machine .«lock_clocks»;
+        locks = machine .locks;
+        accesses = machine .accesses;
+      }
+
   pub log-step : Accepts 2 thread place 0
       → let logged =
       logOn (logOf machine thread) (machine .accesses) (clockOf machine thread) thread place (cachedAt (machine .cache) place) in
-      Tells machine (stepOf machine 2 thread place 0) (logged .answer)
-      (record { answer = logged .answer; machine = withAccesses (withLog machine thread (logged .log)) (logged .accesses) })
+      Tells machine (stepOf machine 2 thread place 0) (logged .answer) (afterLog logged)
   unfolding kindOf logOn stateTests logTests effect logEffect
   log-step isAccepted =
+      let found = loggedOf (logOf machine thread) place in
       by-answer
       machine
       thread
@@ -127,17 +160,12 @@ module _ (machine : Machine) (thread place : ℕ) where
       refl
       isAccepted
       (λ answer. record { answer = answer; log = logOf machine thread; accesses = machine .accesses })
-      (record {
-        answer = Accepted (logOf machine thread .tail .next .0);
-        log = enterOf (logOf machine thread) (Store place (cachedAt (machine .cache) place));
-        accesses = loggedCellOf (machine .accesses) thread place (clockAt (clockOf machine thread) thread);
-      })
+      (logLeaves found)
       (λ (logged : Logged). logged .answer)
-      (λ (logged : Logged).
-      record { answer = logged .answer; machine = withAccesses (withLog machine thread (logged .log)) (logged .accesses) })
+      afterLog
       (λ answer. refl)
-      refl
-      (λ fails. refl)
+      (log-accepted found)
+      (λ fails. log-put found)
 
   pub acquire-step : Accepts 4 thread place 0
       → let handed =

@@ -12,13 +12,15 @@ use Rattle.undo.specs.declared.Event.{Event}
 use Rattle.undo.specs.declared.Event.the-variants.{Empty, Store, Acquire, Release}
 use Rattle.log.specs.declared.Log.{Log}
 use Rattle.accesses.specs.Accesses.{loadedOf, loggedCellOf}
-use Rattle.machine.specs.Effects.{loadEffect, logEffect, storeEffect, acquireEffect, logReleaseEffect, releaseEffect, flushEffect}
-use Rattle.machine.specs.Effects.{flushLogEffect, fenceEffect, pruneEffect, countPruned, evictEffect, evictLogEffect, effect}
+use Rattle.machine.specs.Effects.{loadEffect, firstLogEffect, storeEffect, acquireEffect, logReleaseEffect, releaseEffect}
+use Rattle.machine.specs.Effects.{flushEffect, flushLogEffect, fenceEffect, pruneEffect, countPruned, evictEffect}
+use Rattle.machine.specs.Effects.{evictLogEffect, effect}
 use Rattle.machine.specs.Holds.{logOf, withLog, startOf}
 use Rattle.kinds.specs.Kinds.{Kind, LOAD, LOG, STORE, ACQUIRE, LOGREL, RELEASE, FLUSH, FLUSHLOG, FENCE, PRUNE, EVICT, EVICTLOG}
 use Rattle.machine.specs.Runs.{Step, after}
 use Rattle.machine.specs.declared.Machine.{Machine}
 use Rattle.machine.proofs.Beginnings.{machineWith, AllIdle, freshLogs, fresh-all, on-start}
+use Rattle.machine.proofs.LogCases.{log-cases}
 use Rattle.machine.proofs.StepLaws.{testsOf, after-keeps}
 
 -- the lengths of the machine's arrays
@@ -58,7 +60,7 @@ withLog-sized machine thread log sized = record {
 
 pub effect-sized : (machine : Machine) → Sized machine → (kind : Kind) (thread place value : ℕ)
     → AllFail (testsOf machine kind thread place value) → Sized (effect machine kind thread place value .machine)
-unfolding effect loadEffect logEffect storeEffect acquireEffect logReleaseEffect releaseEffect flushEffect
+unfolding effect loadEffect firstLogEffect storeEffect acquireEffect logReleaseEffect releaseEffect flushEffect
     flushLogEffect fenceEffect pruneEffect evictEffect evictLogEffect loadedOf loggedCellOf
 effect-sized machine sized LOAD thread place value fails = record {
   logs = sized .logs;
@@ -69,15 +71,22 @@ effect-sized machine sized LOAD thread place value fails = record {
   logged = sized .logged;
   loggers = sized .loggers;
 }
-effect-sized machine sized LOG thread place value fails = record {
-  logs = simp length-set (sized .logs);
-  clocks = sized .clocks;
-  lockClocks = sized .lockClocks;
-  locks = sized .locks;
-  stamps = simp length-set (sized .stamps);
-  logged = simp length-set (sized .logged);
-  loggers = simp length-set (sized .loggers);
-}
+effect-sized machine sized LOG thread place value fails =
+    log-cases
+    (λ stepped. Sized (stepped .machine))
+    machine
+    thread
+    place
+    (λ isNowhere. record {
+      logs = simp length-set (sized .logs);
+      clocks = sized .clocks;
+      lockClocks = sized .lockClocks;
+      locks = sized .locks;
+      stamps = simp length-set (sized .stamps);
+      logged = simp length-set (sized .logged);
+      loggers = simp length-set (sized .loggers);
+    })
+    (λ number isAt. sized)
 effect-sized machine sized STORE thread place value fails = record {
   logs = sized .logs;
   clocks = sized .clocks;

@@ -12,7 +12,9 @@ use Rattle.answer.proofs.RefusalLaws.{AllFail, AllRefuse, allRefuse-append, unl
 use Rattle.kinds.proofs.Inputs.{input-refuses}
 use Rattle.append.specs.Append.{roomTests}
 use Rattle.log.specs.Entries.{evictSlotTests}
+use Rattle.accesses.proofs.LogLaws.{log-refuses}
 use Rattle.machine.specs.Effects.{effect}
+use Rattle.machine.specs.Holds.{logOf, clockOf}
 use Rattle.kinds.specs.Kinds.{Kind, LOAD, LOG, STORE, ACQUIRE, LOGREL, RELEASE, FLUSH, FLUSHLOG, FENCE, PRUNE, EVICT, EVICTLOG, kindOf}
 use Rattle.kinds.specs.Kinds.{inputTests}
 use Rattle.machine.specs.Refusals.{loadTests, logTests, storeTests, acquireTests, logReleaseTests, stateTests}
@@ -26,7 +28,7 @@ use Rattle.machine.specs.declared.Stepped.{Stepped}
 pub state-refuses : (machine : Machine) (kind : Kind) (thread place : ℕ) → AllRefuse (stateTests machine kind thread place)
 unfolding stateTests loadTests logTests storeTests acquireTests logReleaseTests releaseTests pruneTests roomTests evictSlotTests
 state-refuses machine LOAD thread place = (refl, tt)
-state-refuses machine LOG thread place = (refl, (refl, (refl, (refl, (refl, tt)))))
+state-refuses machine LOG thread place = log-refuses (logOf machine thread) (machine .accesses) (clockOf machine thread) place
 state-refuses machine STORE thread place = (refl, (refl, (refl, tt)))
 state-refuses machine ACQUIRE thread place = (refl, (refl, (refl, (refl, tt))))
 state-refuses machine LOGREL thread place = (refl, (refl, (refl, (refl, tt))))

@@ -11,13 +11,14 @@ use Rattle.undo.specs.Regions.{oldestRegion}
 use Rattle.ring.specs.Ring.{slotCount}
 use Rattle.log.specs.declared.Log.{Log}
 use Rattle.log.proofs.SlotLaws.{length-persistSlot, length-persistFrom}
-use Rattle.machine.specs.Effects.{loadEffect, logEffect, storeEffect, acquireEffect, logReleaseEffect, releaseEffect, flushEffect}
-use Rattle.machine.specs.Effects.{flushLogEffect, fenceEffect, pruneEffect, evictEffect, evictLogEffect, effect}
+use Rattle.machine.specs.Effects.{loadEffect, firstLogEffect, storeEffect, acquireEffect, logReleaseEffect, releaseEffect}
+use Rattle.machine.specs.Effects.{flushEffect, flushLogEffect, fenceEffect, pruneEffect, evictEffect, evictLogEffect, effect}
 use Rattle.kinds.specs.Kinds.{Kind, LOAD, LOG, STORE, ACQUIRE, LOGREL, RELEASE, FLUSH, FLUSHLOG, FENCE, PRUNE, EVICT, EVICTLOG}
 use Rattle.machine.specs.Holds.{noLog, logOf, withLog, startOf}
 use Rattle.machine.specs.Runs.{Reached}
 use Rattle.machine.specs.declared.Machine.{Machine}
 use Rattle.machine.proofs.Beginnings.{on-start}
+use Rattle.machine.proofs.LogCases.{log-cases}
 use Rattle.machine.proofs.StepLaws.{after-keeps}
 
 -- how many persisted slots each log has
@@ -37,11 +38,18 @@ module _ (machine : Machine) (thread : ℕ) (log : Log) where
 
 effect-same : (machine : Machine) (kind : Kind) (thread place value : ℕ)
     → slotCounts (effect machine kind thread place value .machine .logs) ≡ slotCounts (machine .logs)
-unfolding effect loadEffect logEffect storeEffect acquireEffect logReleaseEffect releaseEffect flushEffect
+unfolding effect loadEffect firstLogEffect storeEffect acquireEffect logReleaseEffect releaseEffect flushEffect
     flushLogEffect fenceEffect pruneEffect evictEffect evictLogEffect appendOf flushLogOf endReleaseOf fenceLogOf
     evictSlotOf dropOf
 effect-same machine LOAD thread place value = refl
-effect-same machine LOG thread place value = put-same machine thread _ refl
+effect-same machine LOG thread place value =
+    log-cases
+    (λ stepped. slotCounts (stepped .machine .logs) ≡ slotCounts (machine .logs))
+    machine
+    thread
+    place
+    (λ isNowhere. put-same machine thread _ refl)
+    (λ number isAt. refl)
 effect-same machine STORE thread place value = refl
 effect-same machine ACQUIRE thread place value = put-same machine thread _ refl
 effect-same machine LOGREL thread place value = put-same machine thread _ refl

@@ -4,9 +4,11 @@ use Rattle.answer.specs.declared.Answer.the-variants.{Accepted}
 use Rattle.cache.specs.Cache.{cachedAt, storeOf, flushOf, fenceOf, evictOf}
 use Rattle.undo.specs.Events.{liveEvent, enterOf, endReleaseOf}
 use Rattle.log.specs.Entries.{flushLogOf, fenceLogOf, evictSlotOf, dropOf}
-use Rattle.undo.specs.Regions.{oldestRegion}
+use Rattle.undo.specs.Regions.{oldestRegion, loggedOf}
 use Rattle.undo.specs.declared.Event.{Event}
 use Rattle.undo.specs.declared.Event.the-variants.{Store, Acquire, Release}
+use Rattle.undo.specs.declared.Found.{Found}
+use Rattle.undo.specs.declared.Found.the-variants.{Nowhere, At}
 use Rattle.clocks.specs.Clocks.{joinOf, raisedOf}
 use Rattle.accesses.specs.Accesses.{loadedOf, loggedCellOf}
 use Rattle.machine.specs.Clocks.{stampNow}
@@ -29,13 +31,22 @@ loadEffect machine thread cell =
     (withAccesses machine (loadedOf (machine .accesses) thread cell (stampNow machine thread)))
 
 -- "LOG cell: appends STORE with the seen content. Answers the rank."
-unfoldable pub logEffect : Machine → ℕ → ℕ → Stepped
-logEffect machine thread cell =
+unfoldable pub firstLogEffect : Machine → ℕ → ℕ → Stepped
+firstLogEffect machine thread cell =
     accepted
     (logOf machine thread .tail .next .0)
     (withAccesses
     (withLog machine thread (enterOf (logOf machine thread) (Store cell (cachedAt (machine .cache) cell))))
     (loggedCellOf (machine .accesses) thread cell (stampNow machine thread)))
+
+-- LOG, by the cell's entry in the current region. Document 02, of a LOG where there is one: "It answers the first entry's rank and appends
+-- nothing". The machine stays as it is.
+abbrev pub logEffectAt : Found → Machine → ℕ → ℕ → Stepped
+logEffectAt Nowhere machine thread cell = firstLogEffect machine thread cell
+logEffectAt (At number) machine thread cell = accepted (number .0) machine
+
+unfoldable pub logEffect : Machine → ℕ → ℕ → Stepped
+logEffect machine thread cell = logEffectAt (loggedOf (logOf machine thread) cell) machine thread cell
 
 -- "STORE cell, value: sets the seen content. The cell stops being firm. All threads' marks on its line go."
 unfoldable pub storeEffect : Machine → ℕ → ℕ → Stepped

@@ -16,10 +16,9 @@ use Rattle.machine.specs.declared.Machine.{Machine}
 unfoldable pub loadTests : Machine → ℕ → ℕ → List Test
 loadTests machine thread cell = loadTestsOn (machine .accesses) (clockOf machine thread) cell
 
--- LOG 7, 9, 8, 6, 5
+-- LOG 7, and of a cell without an entry in the current region 8, 6, 5
 unfoldable pub logTests : Machine → ℕ → ℕ → List Test
-logTests machine thread cell =
-    logTestsOn (logOf machine thread) (machine .accesses) (clockOf machine thread) cell ++ appendTests (logOf machine thread)
+logTests machine thread cell = logTestsOn (logOf machine thread) (machine .accesses) (clockOf machine thread) cell
 
 -- STORE 7, 10, 11
 unfoldable pub storeTests : Machine → ℕ → ℕ → List Test
@@ -35,8 +34,8 @@ unfoldable pub logReleaseTests : Machine → ℕ → ℕ → List Test
 logReleaseTests machine thread lock =
     logReleaseTestsOn (logOf machine thread) (lockOf machine lock) thread ++ appendTests (logOf machine thread)
 
--- "LOAD 8. LOG 7, 9, 8, 6, 5. STORE 7, 10, 11. ACQUIRE 7, 12, 6, 5. LOGREL 7, 13, 6, 5. RELEASE 14, 11. PRUNE 15, 11, 16, 17.
--- EVICTLOG 18. Others none."
+-- "LOAD 8. .. STORE 7, 10, 11. ACQUIRE 7, 12, 6, 5. LOGREL 7, 13, 6, 5. RELEASE 14, 11. PRUNE 15, 11, 16, 17. EVICTLOG 18. Others
+-- none." Document 02: "LOG's order is 7, 8, 6, 5."
 unfoldable pub stateTests : Machine → Kind → ℕ → ℕ → List Test
 stateTests machine LOAD thread place = loadTests machine thread place
 stateTests machine LOG thread place = logTests machine thread place

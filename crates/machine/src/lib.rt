@@ -167,8 +167,8 @@ impl Machine {
         }
     }
 
-    // LOG: a STORE entry with the cell's cached content, where every earlier access of the cell that may race happens before. Answers its
-    // LSN.
+    // LOG: answers the LSN of the cell's entry in the current region. Where there is none it makes one, a STORE entry with the cell's
+    // cached content, where every earlier access of the cell that may race happens before; else the machine stays as it is.
     pub fn log(mut self, thread: u64, cell: u64) -> Stepped
         requires { ⌜ Reached self ⌝ }
         ensures { λ r. ⌜ r ≡ stepOf self 2 thread cell 0 ⌝ }

@@ -16,8 +16,8 @@ use Rattle.undo.specs.Regions.{loggedAmong, loggedOf, goesOn, oldestRegion, isF
 use Rattle.log.specs.Stretch.{stretchOf, holds, presentFrom, presentOf}
 use Rattle.clocks.specs.Clocks.{clockAt, joinOf, raisedOf}
 use Rattle.accesses.specs.Accesses.{loadedOf, loggedCellOf}
-use Rattle.machine.specs.Effects.{loadEffect, logEffect, storeEffect, acquireEffect, logReleaseEffect, releaseEffect, flushEffect}
-use Rattle.machine.specs.Effects.{flushLogEffect, fenceEffect, pruneEffect, evictEffect, evictLogEffect, effect}
+use Rattle.machine.specs.Effects.{loadEffect, firstLogEffect, logEffect, storeEffect, acquireEffect, logReleaseEffect, releaseEffect}
+use Rattle.machine.specs.Effects.{flushEffect, flushLogEffect, fenceEffect, pruneEffect, evictEffect, evictLogEffect, effect}
 use Rattle.machine.specs.Holds.{freshMachine, startOf}
 use Rattle.machine.specs.Image.{imageOf, cutOf}
 use Rattle.kinds.specs.Kinds.{kindOf, inputTests}
@@ -45,7 +45,7 @@ unfoldable pub allGiven : List Row → Bool
 unfolding same flatten tab someBelow setFrom mixFrom unless cacheOf storeOf flushOf fenceOf evictOf freshTail grownTail
     roomTests flushedTail fencedTail releasedTail wordsOf freshLog isLiveSlot appendOf flushLogOf endReleaseOf eventOf
     persistSlot persistFrom fenceLogOf evictSlotTests evictSlotOf dropOf loggedAmong loggedOf goesOn oldestRegion
-    isFinished stretchOf holds presentFrom presentOf clockAt joinOf raisedOf loadedOf loggedCellOf loadEffect logEffect
+    isFinished stretchOf holds presentFrom presentOf clockAt joinOf raisedOf loadedOf loggedCellOf loadEffect firstLogEffect logEffect
     storeEffect acquireEffect logReleaseEffect releaseEffect flushEffect flushLogEffect fenceEffect pruneEffect
     evictEffect evictLogEffect effect freshMachine startOf imageOf cutOf kindOf inputTests loadTests logTests storeTests
     acquireTests logReleaseTests releaseTests pruneTests stateTests after answers stepOfKind stepOf isBadHead isBadEntry

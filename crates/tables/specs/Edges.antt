@@ -1,6 +1,6 @@
--- Document 01's numbers, bounds and orders of tests, as a second table beside that of the P points: each row stands under the words that it
--- is read from. Where steps get to an edge only after very many, a row begins at a machine that is written down; images that no machine
--- makes are written down too.
+-- Document 01's numbers, bounds and orders of tests, with LOG as document 02 has it, as a second table beside that of the P points: each
+-- row stands under the words that it is read from. Where steps get to an edge only after very many, or never, a row begins at a machine
+-- that is written down; images that no machine makes are written down too.
 use Prim.Native.Nat.{ℕ, _+_, _-_}
 use mathlib.Core.Path.{_≡_}
 use mathlib.Core.Bool.{cond}
@@ -9,14 +9,15 @@ use lib.ListN.{getD, set, take, drop, replicate}
 use Rattle.answer.specs.Answer.{numberOf, valueOf}
 use Rattle.answer.specs.Lists.{tab}
 use Rattle.answer.specs.declared.Answer.the-variants.{NoSuchKind, NoSuchThread, NoSuchPlace, UnusedField, LogFull, LsnsUsedUp, Releasing}
-use Rattle.answer.specs.declared.Answer.the-variants.{Race, AlreadyLogged, NotLogged, EntryNotDurable, LockHeld, LockNotHeld, NotReleasing}
+use Rattle.answer.specs.declared.Answer.the-variants.{Race, NotLogged, EntryNotDurable, LockHeld, LockNotHeld, NotReleasing}
 use Rattle.answer.specs.declared.Answer.the-variants.{NothingToPrune, EarlierReleaseNotPruned, CellNotDurable, NoLiveEntry, Unreadable}
 use Rattle.answer.specs.declared.Answer.the-variants.{WrongLength, BadHead, BadEntry, Cyclic}
 use Rattle.ring.specs.Ring.{lsn}
-use Rattle.tail.specs.declared.Releasing.the-variants.{Nothing}
-use Rattle.log.specs.Entries.{zeros}
+use Rattle.tail.specs.declared.Releasing.the-variants.{Nothing, Lock}
+use Rattle.log.specs.Entries.{zeros, wordsOf}
 use Rattle.log.specs.Stretch.{stretchOf}
-use Rattle.machine.specs.Holds.{startOf, withLog}
+use Rattle.accesses.specs.Accesses.{loggedCellOf}
+use Rattle.machine.specs.Holds.{startOf, logOf, withLog, withAccesses}
 use Rattle.machine.specs.Image.{imageOf, cutOf}
 use Rattle.machine.specs.Runs.{Step, stepWith, after, answers}
 use Rattle.machine.specs.declared.Machine.{Machine}
@@ -57,6 +58,10 @@ fromRank thread rank =
 -- "the words kind, place, value, rank"
 abbrev pub entry : ℕ → ℕ → ℕ → ℕ → List ℕ
 entry kind place value rank = kind ∷ place ∷ value ∷ rank ∷ []
+
+-- so many words of the image of a cut, from this one on
+unfoldable pub words : ℕ → ℕ → Machine → List ℕ
+words place count machine = take count (drop place (imageOf machine))
 
 unfoldable pub zeroCells : List ℕ
 zeroCells = replicate 128 0
@@ -135,7 +140,7 @@ ranks62 = after (fromRank 3 62) (LOG 3 5 ∷ LOG 3 6 ∷ LOG 3 7 ∷ [])
 unfoldable pub stateRows : List Row
 stateRows =
     -- "7: the thread is closing": LOG also where 8 would follow, STORE where 10, ACQUIRE where 12 and LOGREL where 13. A closing thread has
-    -- no current region, so with 7 a LOG never has 9, and a STORE always 10 and never 11
+    -- no current region, so with 7 no cell has an entry there, and a STORE always has 10 and never 11
     (asks (ran closing) (LOG 0 6 ∷ LOG 0 5 ∷ LOG 0 9 ∷ STORE 0 5 1 ∷ STORE 0 6 1 ∷ []) gives replicate 5 7) ∷
     (asks (ran closing) (ACQUIRE 0 1 ∷ ACQUIRE 0 0 ∷ LOGREL 0 0 ∷ LOGREL 0 1 ∷ []) gives replicate 4 7) ∷
     -- LOAD, FLUSH, FLUSHLOG, FENCE, EVICT and EVICTLOG do not ask for 7, and another thread is not closing
@@ -149,8 +154,9 @@ stateRows =
     (asks (ran (ACQUIRE 0 0 ∷ [])) (ACQUIRE 0 0 ∷ ACQUIRE 1 0 ∷ ACQUIRE 0 1 ∷ ACQUIRE 1 1 ∷ []) gives 12 ∷ 12 ∷ 0 ∷ 0 ∷ []) ∷
     (asks (ran (ACQUIRE 0 0 ∷ [])) (LOGREL 0 0 ∷ LOGREL 1 0 ∷ LOGREL 0 1 ∷ RELEASE 0 0 ∷ []) gives 0 ∷ 13 ∷ 13 ∷ 14 ∷ []) ∷
     (asks (ran released7) (ACQUIRE 0 7 ∷ LOGREL 3 7 ∷ RELEASE 3 7 ∷ LOG 3 6 ∷ []) gives 0 ∷ 13 ∷ 14 ∷ 0 ∷ []) ∷
-    -- "9, 10: the cell has, or has not, an entry in this thread's current region", which "ends before the next ACQUIRE or with a RELEASE"
-    (asks (ran firm5) (LOG 0 5 ∷ LOG 0 6 ∷ STORE 0 5 1 ∷ STORE 0 6 1 ∷ STORE 1 5 1 ∷ []) gives 9 ∷ 0 ∷ 0 ∷ 10 ∷ 10 ∷ []) ∷
+    -- "10: the cell .. has not, an entry in this thread's current region", which "ends before the next ACQUIRE or with a RELEASE". A LOG is
+    -- accepted in either case
+    (asks (ran firm5) (LOG 0 5 ∷ LOG 0 6 ∷ STORE 0 5 1 ∷ STORE 0 6 1 ∷ STORE 1 5 1 ∷ []) gives 0 ∷ 0 ∷ 0 ∷ 10 ∷ 10 ∷ []) ∷
     (asks (ran (firm5 ++ (ACQUIRE 0 0 ∷ []))) (LOG 0 5 ∷ STORE 0 5 1 ∷ []) gives 0 ∷ 10 ∷ []) ∷
     (asks (ran released7) (LOG 3 127 ∷ STORE 3 127 1 ∷ []) gives 0 ∷ 10 ∷ []) ∷
     -- STORE "11: some live entry up to the cell's entry .. isn't firm", not one after it. With 10 there is no such entry, so never 11
@@ -245,28 +251,110 @@ runsOut =
     (FLUSHLOG 0 ∷ FENCE 0 ∷ PRUNE 0 ∷ []) ∷
     (LOGREL 0 0 ∷ []) ∷ (FLUSHLOG 0 ∷ FENCE 0 ∷ RELEASE 0 0 ∷ []) ∷ (PRUNE 0 ∷ []) ∷ []
 
--- appends of thread 0: LOG of a new cell, of cell 0, of thread 1's cell; ACQUIRE of a free lock, of thread 1's; LOGREL of its own lock, of
--- thread 1's
+-- steps of thread 0: LOG of a cell that nobody logged, of cell 0, of thread 1's cell; ACQUIRE of a free lock, of thread 1's; LOGREL of its
+-- own lock, of thread 1's
 unfoldable pub appends : List Step
 appends = LOG 0 99 ∷ LOG 0 0 ∷ LOG 0 100 ∷ ACQUIRE 0 2 ∷ ACQUIRE 0 1 ∷ LOGREL 0 3 ∷ LOGREL 0 1 ∷ []
 
 unfoldable pub roomRows : List Row
 roomRows =
-    -- "LOG 7, 9, 8, 6, 5. .. ACQUIRE 7, 12, 6, 5. LOGREL 7, 13, 6, 5." "5: 64 live entries. 6: rank 1,000,000 is given."
-    -- A LOG never has 9 and 8: earlier accesses were in order with its region's LOG of the cell, and later ones would race with that LOG
+    -- "LOG's order is 7, 8, 6, 5." "ACQUIRE 7, 12, 6, 5. LOGREL 7, 13, 6, 5." "5: 64 live entries. 6: rank 1,000,000 is given." Until the
+    -- thread is closing, cell 0 has an entry in its current region: a LOG of it is accepted where a LOG that appends is 5
     (asksAlong crowded runsOut appends gives
-    (0 ∷ 9 ∷ 8 ∷ 0 ∷ 12 ∷ 0 ∷ 13 ∷ []) ++
-    (5 ∷ 9 ∷ 8 ∷ 5 ∷ 12 ∷ 5 ∷ 13 ∷ []) ++
-    (0 ∷ 9 ∷ 8 ∷ 0 ∷ 12 ∷ 0 ∷ 13 ∷ []) ++
+    (0 ∷ 0 ∷ 8 ∷ 0 ∷ 12 ∷ 0 ∷ 13 ∷ []) ++
+    (5 ∷ 0 ∷ 8 ∷ 5 ∷ 12 ∷ 5 ∷ 13 ∷ []) ++
+    (0 ∷ 0 ∷ 8 ∷ 0 ∷ 12 ∷ 0 ∷ 13 ∷ []) ++
     replicate 7 7 ++
     (6 ∷ 6 ∷ 8 ∷ 6 ∷ 12 ∷ 6 ∷ 13 ∷ []) ++
     (6 ∷ 6 ∷ 8 ∷ 6 ∷ 12 ∷ 6 ∷ 13 ∷ [])) ∷
-    -- 9 before 6; "a rank (1 to 1,000,000 per thread, in order of making)"
-    (asks (after (fromRank 0 1000000) (LOG 0 5 ∷ [])) (LOG 0 5 ∷ LOG 0 6 ∷ LOG 1 6 ∷ []) gives 9 ∷ 6 ∷ 0 ∷ []) ∷
+    -- "a rank (1 to 1,000,000 per thread, in order of making)": when the last is given, the cell that has it is logged again, and no other
+    (asks (after (fromRank 0 1000000) (LOG 0 5 ∷ [])) (LOG 0 5 ∷ LOG 0 6 ∷ LOG 1 6 ∷ []) gives 0 ∷ 6 ∷ 0 ∷ []) ∷
+    (given (fromRank 0 1000000) (LOG 0 5 ∷ LOG 0 5 ∷ LOG 0 6 ∷ LOG 0 5 ∷ []) gives 1000000 ∷ 1000000 ∷ 0 ∷ 1000000 ∷ []) ∷
     (given (fromRank 0 999999) (LOG 0 5 ∷ LOG 0 6 ∷ LOG 0 7 ∷ LOG 1 8 ∷ []) gives 999999 ∷ 1000000 ∷ 0 ∷ 1 ∷ []) ∷
     -- "A released region of 3 entries and 61 LOGs: the next is 5. PRUNE, then three are accepted and the fourth is 5."
     (answered numbered (released7 ++ tab 62 (λ cell. LOG 3 cell) ++ (PRUNE 3 ∷ []) ++ tab 4 (λ more. LOG 3 (more + 61))) gives
     replicate 69 0 ++ (5 ∷ 0 ∷ 0 ∷ 0 ∷ 0 ∷ 5 ∷ [])) ∷ []
+
+-- ---- logging a cell again
+
+-- thread 0 logs cells 0 to 63, cell 64, cells 9 and 63 again, and cell 65
+unfoldable pub logs64 : List Step
+logs64 = tab 64 (λ cell. LOG 0 cell) ++ (LOG 0 64 ∷ LOG 0 9 ∷ LOG 0 63 ∷ LOG 0 65 ∷ [])
+
+-- thread 0 logs cell 9 twice; twice under lock 0; while it is closing; twice after the RELEASE, and after a LOG of another cell
+unfoldable pub logsNine : List Step
+logsNine =
+    (LOG 0 9 ∷ LOG 0 9 ∷ ACQUIRE 0 0 ∷ LOG 0 9 ∷ LOG 0 9 ∷ LOGREL 0 0 ∷ LOG 0 9 ∷ []) ++
+    (FLUSHLOG 0 ∷ FENCE 0 ∷ LOG 0 9 ∷ RELEASE 0 0 ∷ LOG 0 9 ∷ LOG 0 9 ∷ LOG 0 10 ∷ LOG 0 9 ∷ [])
+
+-- thread 0 logs cell 9 at every store to it
+unfoldable pub storesNine : List Step
+storesNine = LOG 0 9 ∷ FLUSHLOG 0 ∷ FENCE 0 ∷ LOG 0 9 ∷ STORE 0 9 7 ∷ LOG 0 9 ∷ STORE 0 9 8 ∷ LOG 0 9 ∷ []
+
+-- thread 0 logs cell 10, and its region is ended and pruned
+unfoldable pub endsNine : List Step
+endsNine = LOG 0 10 ∷ ACQUIRE 0 0 ∷ FLUSHLOG 0 ∷ FLUSH 0 1 ∷ FENCE 0 ∷ PRUNE 0 ∷ []
+
+-- thread 0 logs cell 9 twice under lock 0 and passes the lock to thread 1
+unfoldable pub passesNine : List Step
+passesNine = ACQUIRE 0 0 ∷ LOG 0 9 ∷ LOG 0 9 ∷ LOGREL 0 0 ∷ FLUSHLOG 0 ∷ FENCE 0 ∷ RELEASE 0 0 ∷ ACQUIRE 1 0 ∷ []
+
+-- a machine that no steps make: thread 0 is closing on lock 0, and its current region has an entry of cell 9
+unfoldable pub closesEarly : Machine
+closesEarly =
+    let log = logOf (ran storesNine) 0 in
+    withLog (ran storesNine) 0 (record {
+      cached = log .cached;
+      persisted = log .persisted;
+      head = log .head;
+      tail = record {
+        next = log .tail .next;
+        durable = log .tail .durable;
+        flushed = log .tail .flushed;
+        releasing = Lock 0;
+      };
+    })
+
+-- a machine that no steps make: thread 0's current region has an entry of cell 9, and a LOG of the cell by thread 1 is not in order with it
+unfoldable pub unordered : Machine
+unordered = withAccesses (ran storesNine) (loggedCellOf (ran storesNine .accesses) 1 9 1)
+
+-- what a LOG of thread 0 could change: its seen entries and the ranks of its record, the clocks and the accesses; and the image
+unfoldable pub traces : Machine → List ℕ
+traces machine =
+    let log = logOf machine 0 in
+    wordsOf (log .cached) ++
+    (log .tail .next .0 ∷ log .tail .durable .0 ∷ log .tail .flushed .0 ∷ []) ++
+    flatten (map (λ clock. clock .t0 ∷ clock .t1 ∷ clock .t2 ∷ clock .t3 ∷ []) (machine .clocks)) ++
+    machine .accesses .stamps ++ machine .accesses .logged ++ machine .accesses .loggers ++ imageOf machine
+
+-- "A LOG of a cell with an entry in the current region .. answers the first entry's rank and appends nothing; only 7 comes before it."
+unfoldable pub againRows : List Row
+againRows =
+    -- with 64 live entries their cells are logged again, each with its rank, and a further one is 5
+    (takes start logs64 gives replicate 64 0 ++ (5 ∷ 0 ∷ 0 ∷ 5 ∷ [])) ∷
+    (given start logs64 gives tab 64 (λ cell. cell + 1) ++ (0 ∷ 10 ∷ 64 ∷ 0 ∷ [])) ∷
+    -- 7 comes before it; a region that an ACQUIRE began, or that begins after a RELEASE, has no entry of the cell: the next rank is given
+    (takes start logsNine gives (0 ∷ 0 ∷ 0 ∷ 0 ∷ 0 ∷ 0 ∷ 7 ∷ []) ++ (0 ∷ 0 ∷ 7 ∷ 0 ∷ 0 ∷ 0 ∷ 0 ∷ 0 ∷ [])) ∷
+    (given start logsNine gives (1 ∷ 1 ∷ 0 ∷ 3 ∷ 3 ∷ 0 ∷ 0 ∷ []) ++ (0 ∷ 0 ∷ 0 ∷ 0 ∷ 5 ∷ 5 ∷ 6 ∷ 5 ∷ [])) ∷
+    -- ranks 62 to 64 sit in slots 62, 63 and 0
+    (given ranks62 (LOG 3 5 ∷ LOG 3 6 ∷ LOG 3 7 ∷ LOG 3 8 ∷ []) gives 62 ∷ 63 ∷ 64 ∷ 65 ∷ []) ∷
+    -- a STORE asks for the first entry to be firm, and that entry's old content is what recovery writes back
+    (takes start storesNine gives replicate 8 0) ∷
+    (given start storesNine gives 1 ∷ 0 ∷ 0 ∷ 1 ∷ 0 ∷ 1 ∷ 0 ∷ 1 ∷ []) ∷
+    (words 132 12 (ran (storesNine ++ (FLUSHLOG 0 ∷ FENCE 0 ∷ []))) gives entry 0 0 0 0 ++ entry 1 9 109 1 ++ entry 0 0 0 0) ∷
+    (recovered numbered (storesNine ++ (FLUSHLOG 0 ∷ FENCE 0 ∷ EVICT 1 ∷ [])) gives 0 ∷ numbered) ∷
+    -- it "appends nothing": one entry is live, the next LOG has the next rank, and PRUNE frees the entries of cells 9 and 10
+    (asks (ran storesNine) (EVICTLOG 0 1 ∷ EVICTLOG 0 2 ∷ []) gives 0 ∷ 18 ∷ []) ∷
+    (given (ran storesNine) endsNine gives 2 ∷ 0 ∷ 0 ∷ 0 ∷ 0 ∷ 2 ∷ []) ∷
+    -- another thread's accesses race with it as with the first LOG, and come after both through the lock
+    (asks (ran storesNine) (LOAD 1 9 ∷ LOG 1 9 ∷ LOAD 1 10 ∷ LOG 1 10 ∷ []) gives 8 ∷ 8 ∷ 0 ∷ 0 ∷ []) ∷
+    (asks (ran passesNine) (LOAD 1 9 ∷ LOG 1 9 ∷ LOAD 2 9 ∷ LOG 2 9 ∷ []) gives 0 ∷ 0 ∷ 8 ∷ 8 ∷ []) ∷
+    -- "only 7 comes before it", and not 8: by steps no LOG has the one or the other. Earlier accesses are in order with the region's LOG of
+    -- the cell, later ones would race with that LOG, and a closing thread has no current region
+    (asks closesEarly (LOG 0 9 ∷ LOG 0 10 ∷ []) gives 7 ∷ 7 ∷ []) ∷
+    (asks unordered (LOG 0 9 ∷ LOAD 0 9 ∷ LOG 0 10 ∷ []) gives 0 ∷ 8 ∷ 0 ∷ []) ∷
+    (traces (after unordered (LOG 0 9 ∷ [])) gives traces unordered) ∷ []
 
 -- ---- numbers given
 
@@ -320,7 +408,7 @@ givenRows =
     (0 ∷ 0 ∷ 0 ∷ 0 ∷ 0 ∷ 0 ∷ 1 ∷ []) ++
     (0 ∷ 0 ∷ 0 ∷ 2 ∷ 4 ∷ [])) ∷
     (map valueOf (NoSuchKind ∷ NoSuchThread ∷ NoSuchPlace ∷ UnusedField ∷ []) gives replicate 4 0) ∷
-    (map valueOf (LogFull ∷ LsnsUsedUp ∷ Releasing ∷ Race ∷ AlreadyLogged ∷ NotLogged ∷ EntryNotDurable ∷ []) gives replicate 7 0) ∷
+    (map valueOf (LogFull ∷ LsnsUsedUp ∷ Releasing ∷ Race ∷ NotLogged ∷ EntryNotDurable ∷ []) gives replicate 6 0) ∷
     (map valueOf (LockHeld ∷ LockNotHeld ∷ NotReleasing ∷ NothingToPrune ∷ []) gives replicate 4 0) ∷
     (map valueOf (EarlierReleaseNotPruned ∷ CellNotDurable ∷ NoLiveEntry ∷ []) gives replicate 3 0) ∷
     (map valueOf (Unreadable ∷ WrongLength ∷ BadHead ∷ BadEntry ∷ Cyclic ∷ []) gives replicate 5 0) ∷ []
@@ -372,10 +460,6 @@ started cells =
 -- the image of these cells and untouched logs
 unfoldable pub untouched : List ℕ → List ℕ
 untouched cells = cells ++ (1 ∷ 1 ∷ 1 ∷ 1 ∷ []) ++ replicate 1024 0
-
--- so many words of the image of a cut, from this one on
-unfoldable pub words : ℕ → ℕ → Machine → List ℕ
-words place count machine = take count (drop place (imageOf machine))
 
 -- a region of thread 3 under lock 6 is pruned, and a next one is logged; thread 0 has logged a cell
 unfoldable pub logsUnder6 : List Step
@@ -532,7 +616,8 @@ otherRows =
 -- ---- the table
 
 unfoldable pub edges : List Row
-edges = inputRows ++ stateRows ++ pruneRows ++ roomRows ++ givenRows ++ keptRows ++ imageRows ++ recoveryRows ++ otherRows
+edges =
+    inputRows ++ stateRows ++ pruneRows ++ roomRows ++ againRows ++ givenRows ++ keptRows ++ imageRows ++ recoveryRows ++ otherRows
 
 -- what document 01 asks at its edges is what the definitions give
 abbrev pub Edges : Type 0

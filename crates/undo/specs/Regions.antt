@@ -85,7 +85,7 @@ abbrev pub isFound : Found → Bool
 isFound Nowhere = false
 isFound (At number) = true
 
--- 9, 10: "the cell has, or has not, an entry in this thread's current region"
+-- 10 where not, and what a LOG of the cell asks after 7: "the cell has .. an entry in this thread's current region"
 abbrev pub isLogged : Log → ℕ → Bool
 isLogged log cell = isFound (loggedOf log cell)
 

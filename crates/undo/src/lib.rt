@@ -158,7 +158,7 @@ pub fn logged(log: Log, cell: usize) -> Found
 }
 
 // The current region has the cell's entry.
-pub fn is_found(found: Found) -> bool
+fn is_found(found: Found) -> bool
     ensures { λ r. ⌜ r ≡ isFound found ⌝ }
 {
     match found {

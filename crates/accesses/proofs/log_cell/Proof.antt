@@ -1,77 +1,67 @@
--- `accesses::log_cell` meets its contract: the accesses change where the log gets the entry.
+-- `accesses::log_cell` meets its contract: 7, the LSN of the cell's entry in the current region, or what a first LOG leaves.
+use mathlib.Core.Path.{_≡_, sym, _∙_}
+use mathlib.Core.Bool.{false}
 use borrow.Author.Needs.{needs}
-use Rattle.undo.specs.declared.Event.the-variants.{Store}
-use Rattle.clocks.specs.Clocks.{clockAt}
-use Rattle.accesses.specs.Accesses.{loggedCellOf}
-use Rattle.accesses.specs.Logs.{logTestsOn, logOn}
-use Rattle.accesses.proofs.EntryLaws.{entry-refused, entry-made}
-use Rattle.accesses.proofs.LogLaws.{log-own-refuses}
+use Rattle.answer.specs.Refusals.{unless}
+use Rattle.undo.specs.Regions.{isClosing}
+use Rattle.accesses.specs.Logs.{logOn}
+use Rattle.accesses.proofs.LogLaws.{log-again, log-anew}
 use Rattle.accesses.proofs.log_cell.Statement.{statement}
 use Rattle.accesses.proofs.log_cell.Tie as tie
 
-log-answer-requires : tie.Need-log-answer-requires
-log-answer-requires c κs = search needs
+-- the thread is not closing
+open-still : (c : tie.Else1) → isClosing (c .before .before .before .args .log) ≡ false
+open-still c = sym (c .before .is-releasing .ensures) ∙ c .if1 .left
 
-enter-requires : tie.Need-enter-requires
-enter-requires c κs = search needs
-
-number-requires : tie.Need-number-requires
-number-requires c κs = search needs
+is-releasing-requires : tie.Need-is-releasing-requires
+is-releasing-requires c κs = search needs
 
 returns : tie.Need-returns
-unfolding logOn
-returns c =
-    let entry = c .before .before .before in
-    let a = entry .before .before .args in
-    entry-refused
-    (a .log)
-    (Store (a .cell) (a .old))
-    (logTestsOn (a .log) (a .accesses) (a .clock) (a .cell))
-    (log-own-refuses (a .log) (a .accesses) (a .clock) (a .cell))
-    (entry .before .log-answer .ensures)
-    (entry .enter .ensures)
-    (c .before .number .ensures)
-    (λ answer log. record { answer = answer; log = log; accesses = a .accesses })
-    _
-    (c .if1 .taken)
+unfolding logOn unless
+returns c = rw (sym (c .before .is-releasing .ensures) ∙ c .if1 .taken)
 
-at-requires : tie.Need-at-requires
-at-requires c κs = search needs
+logged-requires : tie.Need-logged-requires
+logged-requires c κs = search needs
 
-logged-cell-requires : tie.Need-logged-cell-requires
-logged-cell-requires c κs = search needs
+enum-told : tie.Need-enum-told
+enum-told c = search needs
+
+log-first-requires : tie.Need-log-first-requires
+log-first-requires c κs = search needs
+
+enum-known-found : tie.Need-enum-known-found
+enum-known-found c = search needs
+
+cast-t14 : tie.Need-cast-t14
+cast-t14 c = search needs
 
 returns-2 : tie.Need-returns-2
-unfolding logOn
 returns-2 c =
-    let took = c .before .before in
-    let entry = took .before .before .before in
-    let a = entry .before .before .args in
-    rw (c .logged-cell .ensures, c .before .at .ensures)
-    (entry-made
-    (a .log)
-    (Store (a .cell) (a .old))
-    (logTestsOn (a .log) (a .accesses) (a .clock) (a .cell))
-    (log-own-refuses (a .log) (a .accesses) (a .clock) (a .cell))
-    (entry .before .log-answer .ensures)
-    (entry .enter .ensures)
-    (took .before .number .ensures)
-    (λ answer log. record { answer = answer; log = log; accesses = a .accesses })
-    (λ answer log. record {
-      answer = answer;
-      log = log;
-      accesses = loggedCellOf (a .accesses) (a .thread) (a .cell) (clockAt (a .clock) (a .thread));
-    })
-    (took .if1 .left))
+    let found = c .before .before .before in
+    let a = found .before .before .before .before .args in
+    c .log-first .ensures
+    ∙ log-anew (a .log) (a .accesses) (a .clock) (a .cell) (a .thread) (a .old) (open-still (found .before))
+    (sym (found .logged .ensures) ∙ c .before .enum-told .given .1)
+
+returns-3 : tie.Need-returns-3
+returns-3 c =
+    let told = c .before .before in
+    let found = told .before .before in
+    let a = found .before .before .before .before .args in
+    log-again (a .log) (a .accesses) (a .clock) (a .cell) (a .thread) (a .old) (open-still (found .before))
+    (told .found .given .0 .0)
+    (sym (found .logged .ensures) ∙ told .found .given .1)
 
 pub log-cell-spec : {M : Type 1} → statement M
 log-cell-spec =
     tie.close
     (tie.spec
-    log-answer-requires
-    enter-requires
-    number-requires
+    is-releasing-requires
     returns
-    at-requires
-    logged-cell-requires
-    returns-2)
+    logged-requires
+    enum-told
+    log-first-requires
+    enum-known-found
+    cast-t14
+    returns-2
+    returns-3)

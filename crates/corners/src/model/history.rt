@@ -26,11 +26,13 @@ pub(crate) const EVICT: u64 = 11;
 
 pub(crate) const EVICTLOG: u64 = 12;
 
-// Two more kinds to look for, which no step has that is tried: a step that makes an entry (LOG, ACQUIRE or LOGREL), and a STORE to any cell
-// of the line that is the place.
+// Three more kinds to look for, which no step has that is tried: a step that makes an entry (LOG, ACQUIRE or LOGREL), a STORE to any cell
+// of the line that is the place, and a LOG that makes an entry.
 pub(crate) const ENTRY: u64 = 1001;
 
 pub(crate) const STORE_IN_LINE: u64 = 1002;
+
+pub(crate) const FIRST_LOG: u64 = 1003;
 
 // Looked for as thread or place, it fits every step: no accepted step has it there.
 pub(crate) const ANY: u64 = 18446744073709551615;
@@ -75,10 +77,39 @@ pub(crate) fn value_of(past: &[u64], step: usize) -> u64 {
     word(past, step, 3)
 }
 
+// The thread of a LOG step logged the cell before and took no ACQUIRE and no LOGREL since then: the cell has an entry in the current
+// region, and the step makes none.
+fn logs_again(past: &[u64], step: usize) -> bool {
+    let thread = thread_of(past, step);
+    let cell = place_of(past, step);
+    let mut earlier = step;
+    while 1 < earlier {
+        earlier -= 1;
+        if thread_of(past, earlier) == thread {
+            let kind = kind_of(past, earlier);
+            if kind == ACQUIRE || kind == LOGREL {
+                return false;
+            }
+            if kind == LOG && place_of(past, earlier) == cell {
+                return true;
+            }
+        }
+    }
+    false
+}
+
+// The step is a LOG that makes an entry.
+fn is_first_log(past: &[u64], step: usize) -> bool {
+    if kind_of(past, step) == LOG {
+        return !logs_again(past, step);
+    }
+    false
+}
+
 // The step makes an entry.
 fn is_entry(past: &[u64], step: usize) -> bool {
     let kind = kind_of(past, step);
-    kind == LOG || kind == ACQUIRE || kind == LOGREL
+    kind == ACQUIRE || kind == LOGREL || is_first_log(past, step)
 }
 
 // The step has this kind and place.
@@ -91,6 +122,9 @@ fn is_at(past: &[u64], step: usize, kind: u64, place: u64) -> bool {
     }
     if kind == ENTRY {
         return is_entry(past, step);
+    }
+    if kind == FIRST_LOG {
+        return is_first_log(past, step);
     }
     kind_of(past, step) == kind
 }

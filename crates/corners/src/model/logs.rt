@@ -1,5 +1,5 @@
-// Whole logs: a thread's entries are the LOG, ACQUIRE and LOGREL steps it took, each known by its step. None is ever forgotten; the head
-// says which are live.
+// Whole logs: a thread's entries are the LOG, ACQUIRE and LOGREL steps it took, each known by its step, without the LOGs of a cell with an
+// entry in the current region. None is ever forgotten; the head says which are live.
 ghost use Prim.Native.Nat.{_-_, _≤_};
 use crate::model::cells;
 use crate::model::history;
@@ -79,7 +79,7 @@ pub(crate) fn closing(past: &[u64], thread: u64, before: usize) -> usize {
 
 // The cell's entry in the thread's current region, which began with the last ACQUIRE or after the last RELEASE entry; 0 where it has none.
 pub(crate) fn logged(past: &[u64], thread: u64, cell: u64, before: usize) -> usize {
-    let entry = history::last(past, history::LOG, thread, cell, before);
+    let entry = history::last(past, history::FIRST_LOG, thread, cell, before);
     if entry < history::last(past, history::ACQUIRE, thread, ANY, before) {
         return 0;
     }

@@ -90,13 +90,13 @@ fn load_refusal(past: &[u64], thread: u64, cell: u64, step: usize) -> u64 {
     0
 }
 
-// LOG 7, 9, 8, 6, 5.
+// LOG 7, 8, 6, 5; of a cell with an entry in the current region 7 alone.
 fn log_refusal(past: &[u64], thread: u64, cell: u64, step: usize) -> u64 {
     if logs::closing(past, thread, step) != 0 {
         return 7;
     }
     if logs::logged(past, thread, cell, step) != 0 {
-        return 9;
+        return 0;
     }
     if order::races(past, history::LOG, thread, cell, step) {
         return 8;
@@ -257,7 +257,16 @@ pub(crate) fn refusal(past: &[u64], kind: u64, thread: u64, place: u64, value: u
     state_refusal(past, kind, thread, place)
 }
 
-// The number that an accepted step gives: a LOAD the seen content, a LOG its rank, an ACQUIRE or LOGREL the lock's count, a PRUNE how many
+// The rank that a LOG gives: of the cell's entry in the current region, which is the LOG's own where there is none before it.
+fn logged_rank(past: &[u64], thread: u64, cell: u64, step: usize) -> u64 {
+    let entry = logs::logged(past, thread, cell, step);
+    if entry == 0 {
+        return logs::rank(past, thread, step) as u64;
+    }
+    logs::rank(past, thread, entry) as u64
+}
+
+// The number that an accepted step gives: a LOAD the seen content, a LOG a rank, an ACQUIRE or LOGREL the lock's count, a PRUNE how many
 // entries it freed; other kinds 0.
 pub(crate) fn given(start: &[u64], past: &[u64], kind: u64, thread: u64, place: u64) -> u64 {
     let step = history::next_step(past);
@@ -265,7 +274,7 @@ pub(crate) fn given(start: &[u64], past: &[u64], kind: u64, thread: u64, place: 
         return cells::seen(start, past, place, step);
     }
     if kind == history::LOG {
-        return logs::rank(past, thread, step) as u64;
+        return logged_rank(past, thread, place, step);
     }
     if kind == history::ACQUIRE {
         return cells::lock_count(past, place, step) as u64;

@@ -12,12 +12,13 @@ use borrow.Author.Tests.{lt-ltb, le-ltb}
 use Rattle.undo.specs.Regions.{isRelease}
 use Rattle.undo.specs.declared.Event.the-variants.{Release}
 use Rattle.undo.specs.declared.SyncCount.{SyncCount}
 use Rattle.atomicity.specs.History.{Fed, stepAt}
-use Rattle.atomicity.proofs.Logged.{Entries, Made}
+use Rattle.atomicity.proofs.Logged.{Entries, Made, Grows}
 use Rattle.atomicity.proofs.Ordered.{andThen, accepted-inside}
-use Rattle.atomicity.proofs.Places.{madeBy, lastOf, length-then, step-before, step-new, last-before}
+use Rattle.atomicity.proofs.Places.{PlacesHold, madeBy, lastOf, length-then, step-before, step-new, last-was}
 use Rattle.atomicity.proofs.RegionsPrune.{PruneRegions}
-use Rattle.laws.proofs.ReleaseSteps.{LogsRelease, ifReleases, releases-then, releases-agree, releases-fail, ReleaseSteps}
+use Rattle.atomicity.proofs.ReleaseSteps.{LogsRelease, ifReleases, releases-then, releases-agree, releases-fail, stands-at, made-at}
+use Rattle.atomicity.proofs.Times.{TimesHold}
 
 -- how many numbers below a count pass a test
 unfoldable pub countBelow : (ℕ → Bool) → ℕ → ℕ
@@ -48,52 +49,53 @@ count-more one other (suc count) extra under fails passes agree =
     rw (agree count (omega arith) (λ equal. differs (sym equal))) (omega arith))
 
 -- the step at the place is an accepted LOGREL of the lock, and its entry is below its thread's head
-abbrev pub prunedTest : (ℕ → ℕ) → (ℕ → ℕ) → List Fed → ℕ → ℕ → Bool
-prunedTest given heads history lock place =
-    ifReleases (stepAt history place) lock (ltb (lastOf given history place) (heads (stepAt history place .thread)))
+abbrev pub prunedTest : Entries → (ℕ → ℕ) → List Fed → ℕ → ℕ → Bool
+prunedTest entries heads history lock place =
+    ifReleases (stepAt history place) lock (ltb (lastOf entries history place) (heads (stepAt history place .thread)))
 
 -- each lock's number is how many of its accepted LOGREL steps have an entry below their thread's head
-pub record Counted (given heads : ℕ → ℕ) (history : List Fed) (pruned : ℕ → ℕ) : Type 0 where
-  pub number : (lock : ℕ) → pruned lock ≡ countBelow (prunedTest given heads history lock) (length history)
+pub record Counted (entries : Entries) (heads : ℕ → ℕ) (history : List Fed) (pruned : ℕ → ℕ) : Type 0 where
+  pub number : (lock : ℕ) → pruned lock ≡ countBelow (prunedTest entries heads history lock) (length history)
 
 -- where heads and numbers stay the same, the numbers count the pruned LOGREL steps still
-pub counted-same : {given heads after : ℕ → ℕ} {history : List Fed} {pruned now : ℕ → ℕ} →
+pub counted-same : {entries : Entries} {heads after : ℕ → ℕ} {history : List Fed} {pruned now : ℕ → ℕ} →
     ((thread : ℕ) → after thread ≡ heads thread) → ((lock : ℕ) → now lock ≡ pruned lock) →
-    Counted given heads history pruned → Counted given after history now
-counted-same {given} {heads} {after} {history} same sameNumber counted = record {
+    Counted entries heads history pruned → Counted entries after history now
+counted-same {entries} {heads} {after} {history} same sameNumber counted = record {
   number = λ lock.
       sameNumber lock ∙
       (counted .number lock ∙
       count-same
-      (prunedTest given heads history lock)
-      (prunedTest given after history lock)
+      (prunedTest entries heads history lock)
+      (prunedTest entries after history lock)
       (length history)
       (λ place under. rw (same (stepAt history place .thread))));
 }
 
 -- one more step leaves the numbers as they count, if it is no LOGREL or its entry is not pruned
-pub counted-longer : {given heads : ℕ → ℕ} {history : List Fed} {pruned : ℕ → ℕ} (fed : Fed) →
-    ((lock : ℕ) → LogsRelease fed lock → heads (fed .thread) ≤ madeBy given (andThen history fed) (fed .thread) (suc (length history))) →
-    Counted given heads history pruned → Counted given heads (andThen history fed) pruned
+pub counted-longer : {old new : Entries} {heads : ℕ → ℕ} {history : List Fed} {pruned : ℕ → ℕ} (fed : Fed) →
+    Grows old new (length history) →
+    ((lock : ℕ) → LogsRelease fed lock → heads (fed .thread) ≤ madeBy new (andThen history fed) (fed .thread) (suc (length history))) →
+    Counted old heads history pruned → Counted new heads (andThen history fed) pruned
 unfolding countBelow
-counted-longer {given} {heads} {history} fed notPruned counted = record {
+counted-longer {old} {new} {heads} {history} fed grows notPruned counted = record {
   number = λ lock.
       let before = counted .number lock in
-      let longer : countBelow (prunedTest given heads history lock) (length history) ≡
-      countBelow (prunedTest given heads (andThen history fed) lock) (length history) =
+      let longer : countBelow (prunedTest old heads history lock) (length history) ≡
+      countBelow (prunedTest new heads (andThen history fed) lock) (length history) =
       count-same
-      (prunedTest given heads history lock)
-      (prunedTest given heads (andThen history fed) lock)
+      (prunedTest old heads history lock)
+      (prunedTest new heads (andThen history fed) lock)
       (length history)
-      (λ place before. rw (last-before history fed given before, step-before history fed before)) in
+      (λ place before. rw (last-was history fed grows {place = place} before, step-before history fed before)) in
       rw (length-then history fed, new-fails lock) (omega arith);
 }
   where
-    new-fails : (lock : ℕ) → prunedTest given heads (andThen history fed) lock (length history) ≡ false
+    new-fails : (lock : ℕ) → prunedTest new heads (andThen history fed) lock (length history) ≡ false
     new-fails lock =
         rw (step-new history fed)
         (releases-fail fed lock
-        (ltb (madeBy given (andThen history fed) (fed .thread) (suc (length history))) (heads (fed .thread)))
+        (ltb (madeBy new (andThen history fed) (fed .thread) (suc (length history))) (heads (fed .thread)))
         (λ releases. le-ltb _ _ (notPruned lock releases)))
 
 -- a PRUNE counts one more RELEASE of a lock if the region ends in one, and no more of another
@@ -102,23 +104,23 @@ PrunedOne entries thread last lock number after =
     ((count : SyncCount) × (entries .event thread last ≡ Release lock count) × (after ≡ suc number)) ⊎
     (((count : SyncCount) → entries .event thread last ≡ Release lock count → ⊥) × (after ≡ number))
 
-module _ {old new : Entries} {now thread size : ℕ} {history : List Fed} (step : PruneRegions old new now thread size)
-    (steps : ReleaseSteps history old) where
+module _ {old new : Entries} {now thread size : ℕ} {history : List Fed} {counts : ℕ → ℕ} (step : PruneRegions old new now thread size)
+    (places : PlacesHold history old counts) (times : TimesHold history old) where
   abbrev last : ℕ
   last = old .head thread + size - 1
 
   -- a LOGREL step that does not stand at the region's last entry is as pruned as it was
   elsewhere : (lock place : ℕ) →
-      (LogsRelease (stepAt history place) lock → stepAt history place .thread ≡ thread → lastOf (old .before) history place ≡ last → ⊥) →
-      prunedTest (old .before) (old .head) history lock place ≡ prunedTest (old .before) (new .head) history lock place
+      (LogsRelease (stepAt history place) lock → stepAt history place .thread ≡ thread → lastOf old history place ≡ last → ⊥) →
+      prunedTest old (old .head) history lock place ≡ prunedTest old (new .head) history lock place
   elsewhere lock place notLast =
       releases-agree (stepAt history place) lock _ _ (λ releases.
       by-cases
       (ℕ-discrete (stepAt history place .thread) thread)
       (λ same.
-      let says = steps .stands releases .isEntry .says in
+      let says = stands-at places times releases .isEntry .says in
       rw (same, step .headMore)
-      (mine (madeBy (old .before) history thread (suc place)) (ap isRelease (rw same at says))
+      (mine (madeBy old history thread (suc place)) (ap isRelease (rw same at says))
       (λ isLast. notLast releases same (rw same isLast))))
       (λ differs. rw (step .headOther _ differs)))
     where
@@ -148,34 +150,34 @@ module _ {old new : Entries} {now thread size : ℕ} {history : List Fed} (step 
 
   pub counted-prune : {pruned after : ℕ → ℕ} →
       ((lock : ℕ) → PrunedOne old thread last lock (pruned lock) (after lock)) →
-      Counted (old .before) (old .head) history pruned → Counted (old .before) (new .head) history after
+      Counted old (old .head) history pruned → Counted old (new .head) history after
   counted-prune {pruned} {after} cases counted = record { number = λ lock. ⊎-elim (ended lock) (unended lock) (cases lock) }
     where
       unended : (lock : ℕ) →
           ((count : SyncCount) → old .event thread last ≡ Release lock count → ⊥) × (after lock ≡ pruned lock) →
-          after lock ≡ countBelow (prunedTest (old .before) (new .head) history lock) (length history)
+          after lock ≡ countBelow (prunedTest old (new .head) history lock) (length history)
       unended lock same =
           same .1 ∙
           (counted .number lock ∙
-          count-same (prunedTest (old .before) (old .head) history lock)
-          (prunedTest (old .before) (new .head) history lock) (length history) (λ place under.
+          count-same (prunedTest old (old .head) history lock)
+          (prunedTest old (new .head) history lock) (length history) (λ place under.
           elsewhere lock place (λ releases isThread isLast.
-          let found = steps .stands releases in
+          let found = stands-at places times releases in
           same .0 (found .count) (rw (isLast, isThread) at (found .isEntry .says)))))
 
       ended : (lock : ℕ) →
           (count : SyncCount) × (old .event thread last ≡ Release lock count) × (after lock ≡ suc (pruned lock)) →
-          after lock ≡ countBelow (prunedTest (old .before) (new .head) history lock) (length history)
+          after lock ≡ countBelow (prunedTest old (new .head) history lock) (length history)
       ended lock ends =
-          let maker = steps .made (record { made = last-made; says = ends .1 }) in
+          let maker = made-at places times (record { made = last-made; says = ends .1 }) in
           let place = old .time thread last in
           let some-entry = step .notEmpty in
           ends .2 ∙
           (ap suc (counted .number lock) ∙
           sym
           (count-more
-          (prunedTest (old .before) (old .head) history lock)
-          (prunedTest (old .before) (new .head) history lock)
+          (prunedTest old (old .head) history lock)
+          (prunedTest old (new .head) history lock)
           (length history)
           place
           (accepted-inside history place (maker .isStep .isAccepted))
@@ -184,4 +186,4 @@ module _ {old new : Entries} {now thread size : ℕ} {history : List Fed} (step 
           rw (maker .isLast, maker .isThread, step .headMore) (lt-ltb last (old .head thread + size) (omega arith)))
           (λ other under differs.
           elsewhere lock other (λ releases isThread isLast.
-          differs (sym (rw (isLast, isThread) at (steps .stands releases .isTime)))))))
+          differs (sym (rw (isLast, isThread) at (stands-at places times releases .isTime)))))))
