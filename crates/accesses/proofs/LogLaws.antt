@@ -1,11 +1,11 @@
 -- LOG's tests: every one is a refusal, and a cell's entry in the current region decides which of them are asked.
 use Prim.Native.Nat.{ℕ}
 use mathlib.Core.Path.{_≡_, refl, sym, ap}
-use mathlib.Core.Bool.{false, not}
+use mathlib.Core.Bool.{Bool, true, false, not}
 use mathlib.Core.List.{List, _∷_}
-use Rattle.answer.specs.Refusals.{Test, _⇒_, unless}
+use Rattle.answer.specs.Refusals.{Test, _⇒_, guarded, unless}
 use Rattle.answer.specs.declared.Answer.{Answer}
-use Rattle.answer.specs.declared.Answer.the-variants.{Race}
+use Rattle.answer.specs.declared.Answer.the-variants.{Releasing, Race}
 use Rattle.answer.proofs.RefusalLaws.{AllRefuse, guarded-refuses, guarded-asked, guarded-unasked}
 use Rattle.ring.specs.declared.Lsn.{Lsn}
 use Rattle.log.specs.Entries.{appendTests}
@@ -31,6 +31,15 @@ module _ (log : Log) (accesses : Accesses) (clock : Clock) (cell : ℕ) where
   refusedWith answer = record { answer = answer; log = log; accesses = accesses }
 
   module _ (thread old : ℕ) where
+    -- the thread is closing: 7, whatever its current region has
+    pub log-closing : isClosing log ≡ true → refusedWith Releasing ≡ logOn log accesses clock thread cell old
+    unfolding logOn unless
+    log-closing isClosed =
+        ap (λ (closing : Bool).
+        unless refusedWith ((closing ⇒ Releasing) ∷ guarded (not (isLogged log cell)) (firstLogTests log accesses clock cell))
+        (loggedAt (loggedOf log cell) log accesses clock thread cell old))
+        (sym isClosed)
+
     -- the thread is not closing, and its current region has an entry of the cell: its LSN is answered, and nothing changes
     pub log-again : isClosing log ≡ false → (number : Lsn) → loggedOf log cell ≡ At number
         → loggedAt (At number) log accesses clock thread cell old ≡ logOn log accesses clock thread cell old

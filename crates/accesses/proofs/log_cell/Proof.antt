@@ -2,10 +2,8 @@
 use mathlib.Core.Path.{_≡_, sym, _∙_}
 use mathlib.Core.Bool.{false}
 use borrow.Author.Needs.{needs}
-use Rattle.answer.specs.Refusals.{unless}
 use Rattle.undo.specs.Regions.{isClosing}
-use Rattle.accesses.specs.Logs.{logOn}
-use Rattle.accesses.proofs.LogLaws.{log-again, log-anew}
+use Rattle.accesses.proofs.LogLaws.{log-closing, log-again, log-anew}
 use Rattle.accesses.proofs.log_cell.Statement.{statement}
 use Rattle.accesses.proofs.log_cell.Tie as tie
 
@@ -17,8 +15,10 @@ is-releasing-requires : tie.Need-is-releasing-requires
 is-releasing-requires c κs = search needs
 
 returns : tie.Need-returns
-unfolding logOn unless
-returns c = rw (sym (c .before .is-releasing .ensures) ∙ c .if1 .taken)
+returns c =
+    let a = c .before .before .before .args in
+    log-closing (a .log) (a .accesses) (a .clock) (a .cell) (a .thread) (a .old)
+    (sym (c .before .is-releasing .ensures) ∙ c .if1 .taken)
 
 logged-requires : tie.Need-logged-requires
 logged-requires c κs = search needs
