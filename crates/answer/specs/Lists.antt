@@ -1,5 +1,5 @@
 -- Definitions on lists and numbers that the definitions of several crates share.
-use Prim.Native.Nat.{ℕ, zero, suc}
+use Prim.Native.Nat.{ℕ, zero, suc, _+_}
 use mathlib.Core.Bool.{Bool, false, cond, _||_}
 use mathlib.Core.List.{List, [], _∷_}
 
@@ -12,6 +12,11 @@ tab (suc n) f = f 0 ∷ tab n (λ i. f (suc i))
 unfoldable pub someBelow : ℕ → (ℕ → Bool) → Bool
 someBelow zero test = false
 someBelow (suc n) test = test n || someBelow n test
+
+-- of how many numbers below n the test holds
+unfoldable pub countBelow : ℕ → (ℕ → Bool) → ℕ
+countBelow zero test = 0
+countBelow (suc n) test = cond (test n) 1 0 + countBelow n test
 
 -- the list with this value at each place, counted from this number on, of which the test holds
 unfoldable pub setFrom : {A : Type 0} → (ℕ → Bool) → A → ℕ → List A → List A

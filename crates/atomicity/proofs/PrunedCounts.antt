@@ -1,14 +1,16 @@
 -- How many LOGREL steps of a lock stand at a pruned entry: what a longer history, and a PRUNE, do to that number.
-use Prim.Native.Nat.{ℕ, zero, suc, _+_, _-_, _≤_, _<_}
+use Prim.Native.Nat.{ℕ, suc, _+_, _-_, _≤_}
 use native.Mathlib.Decide.{decLt, ℕ-discrete}
 use native.Mathlib.Omega.{arith}
-use mathlib.Core.Path.{_≡_, refl, sym, ap, _∙_}
-use mathlib.Core.Bool.{Bool, true, false, cond, true≢false}
+use mathlib.Core.Path.{_≡_, sym, ap, _∙_}
+use mathlib.Core.Bool.{Bool, true, false, true≢false}
 use mathlib.Core.List.{List}
 use mathlib.Core.Logic.{_⊎_, ⊎-elim, by-cases}
 use lib.ListN.{length}
 use lib.Dec.{ltb}
 use borrow.Author.Tests.{lt-ltb, le-ltb}
+use Rattle.answer.specs.Lists.{countBelow}
+use Rattle.answer.proofs.BelowLaws.{countBelow-same, countBelow-more}
 use Rattle.undo.specs.Regions.{isRelease}
 use Rattle.undo.specs.declared.Event.the-variants.{Release}
 use Rattle.undo.specs.declared.SyncCount.{SyncCount}
@@ -20,34 +22,6 @@ use Rattle.atomicity.proofs.RegionsPrune.{PruneRegions}
 use Rattle.atomicity.proofs.ReleaseSteps.{LogsRelease, ifReleases, releases-then, releases-agree, releases-fail, stands-at, made-at}
 use Rattle.atomicity.proofs.Times.{TimesHold}
 
--- how many numbers below a count pass a test
-unfoldable pub countBelow : (ℕ → Bool) → ℕ → ℕ
-countBelow test zero = 0
-countBelow test (suc count) = cond (test count) 1 0 + countBelow test count
-
-pub count-same : (one other : ℕ → Bool) (count : ℕ) → ((number : ℕ) → number < count → one number ≡ other number) →
-    countBelow one count ≡ countBelow other count
-unfolding countBelow
-count-same one other zero agree = refl
-count-same one other (suc count) agree =
-    rw (agree count (omega arith), count-same one other count (λ number under. agree number (omega arith)))
-
--- where one number more passes the test, the count is one more
-pub count-more : (one other : ℕ → Bool) (count extra : ℕ) → extra < count → one extra ≡ false → other extra ≡ true →
-    ((number : ℕ) → number < count → (number ≡ extra → ⊥) → one number ≡ other number) →
-    countBelow other count ≡ suc (countBelow one count)
-unfolding countBelow
-count-more one other zero extra under fails passes agree = absurd (omega arith)
-count-more one other (suc count) extra under fails passes agree =
-    by-cases
-    (ℕ-discrete extra count)
-    (λ same.
-    let below = count-same one other count (λ number less. agree number (omega arith) (λ equal. omega arith)) in
-    rw (rw same at fails, rw same at passes) (omega arith))
-    (λ differs.
-    let below = count-more one other count extra (omega (arith, differs)) fails passes (λ number less. agree number (omega arith)) in
-    rw (agree count (omega arith) (λ equal. differs (sym equal))) (omega arith))
-
 -- the step at the place is an accepted LOGREL of the lock, and its entry is below its thread's head
 abbrev pub prunedTest : Entries → (ℕ → ℕ) → List Fed → ℕ → ℕ → Bool
 prunedTest entries heads history lock place =
@@ -55,7 +29,7 @@ prunedTest entries heads history lock place =
 
 -- each lock's number is how many of its accepted LOGREL steps have an entry below their thread's head
 pub record Counted (entries : Entries) (heads : ℕ → ℕ) (history : List Fed) (pruned : ℕ → ℕ) : Type 0 where
-  pub number : (lock : ℕ) → pruned lock ≡ countBelow (prunedTest entries heads history lock) (length history)
+  pub number : (lock : ℕ) → pruned lock ≡ countBelow (length history) (prunedTest entries heads history lock)
 
 -- where heads and numbers stay the same, the numbers count the pruned LOGREL steps still
 pub counted-same : {entries : Entries} {heads after : ℕ → ℕ} {history : List Fed} {pruned now : ℕ → ℕ} →
@@ -65,10 +39,10 @@ counted-same {entries} {heads} {after} {history} same sameNumber counted = recor
   number = λ lock.
       sameNumber lock ∙
       (counted .number lock ∙
-      count-same
+      countBelow-same
+      (length history)
       (prunedTest entries heads history lock)
       (prunedTest entries after history lock)
-      (length history)
       (λ place under. rw (same (stepAt history place .thread))));
 }
 
@@ -81,12 +55,12 @@ unfolding countBelow
 counted-longer {old} {new} {heads} {history} fed grows notPruned counted = record {
   number = λ lock.
       let before = counted .number lock in
-      let longer : countBelow (prunedTest old heads history lock) (length history) ≡
-      countBelow (prunedTest new heads (andThen history fed) lock) (length history) =
-      count-same
+      let longer : countBelow (length history) (prunedTest old heads history lock) ≡
+      countBelow (length history) (prunedTest new heads (andThen history fed) lock) =
+      countBelow-same
+      (length history)
       (prunedTest old heads history lock)
       (prunedTest new heads (andThen history fed) lock)
-      (length history)
       (λ place before. rw (last-was history fed grows {place = place} before, step-before history fed before)) in
       rw (length-then history fed, new-fails lock) (omega arith);
 }
@@ -155,19 +129,19 @@ module _ {old new : Entries} {now thread size : ℕ} {history : List Fed} {count
     where
       unended : (lock : ℕ) →
           ((count : SyncCount) → old .event thread last ≡ Release lock count → ⊥) × (after lock ≡ pruned lock) →
-          after lock ≡ countBelow (prunedTest old (new .head) history lock) (length history)
+          after lock ≡ countBelow (length history) (prunedTest old (new .head) history lock)
       unended lock same =
           same .1 ∙
           (counted .number lock ∙
-          count-same (prunedTest old (old .head) history lock)
-          (prunedTest old (new .head) history lock) (length history) (λ place under.
+          countBelow-same (length history) (prunedTest old (old .head) history lock)
+          (prunedTest old (new .head) history lock) (λ place under.
           elsewhere lock place (λ releases isThread isLast.
           let found = stands-at places times releases in
           same .0 (found .count) (rw (isLast, isThread) at (found .isEntry .says)))))
 
       ended : (lock : ℕ) →
           (count : SyncCount) × (old .event thread last ≡ Release lock count) × (after lock ≡ suc (pruned lock)) →
-          after lock ≡ countBelow (prunedTest old (new .head) history lock) (length history)
+          after lock ≡ countBelow (length history) (prunedTest old (new .head) history lock)
       ended lock ends =
           let maker = made-at places times (record { made = last-made; says = ends .1 }) in
           let place = old .time thread last in
@@ -175,10 +149,10 @@ module _ {old new : Entries} {now thread size : ℕ} {history : List Fed} {count
           ends .2 ∙
           (ap suc (counted .number lock) ∙
           sym
-          (count-more
+          (countBelow-more
+          (length history)
           (prunedTest old (old .head) history lock)
           (prunedTest old (new .head) history lock)
-          (length history)
           place
           (accepted-inside history place (maker .isStep .isAccepted))
           (releases-then (maker .isStep) _ ∙ rw (maker .isLast, maker .isThread) (le-ltb last (old .head thread) (omega arith)))

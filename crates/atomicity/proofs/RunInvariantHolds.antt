@@ -9,6 +9,7 @@ use mathlib.Core.List.{List, []}
 use mathlib.Core.Logic.{by-cases}
 use lib.ListN.{length, replicate}
 use borrow.Author.Tests.{eq-eqb, ne-eqb}
+use Rattle.answer.specs.Lists.{countBelow}
 use Rattle.cache.specs.Cache.{cellCount}
 use Rattle.cache.proofs.CacheLaws as CacheLaws
 use Rattle.undo.specs.Events.{payloadOf}
@@ -29,7 +30,6 @@ use Rattle.atomicity.proofs.Cells.{unlogged}
 use Rattle.atomicity.proofs.Holding.{nobody-holds, nothing-released}
 use Rattle.atomicity.proofs.HistoryRuns.{run-keeps}
 use Rattle.atomicity.proofs.Places.{madeBy}
-use Rattle.atomicity.proofs.PrunedCounts.{countBelow}
 use Rattle.atomicity.proofs.Regions.{regions-start}
 use Rattle.atomicity.proofs.StepsFollow.{begin-follows}
 use Rattle.atomicity.proofs.LogViews.{logAt}

@@ -8,10 +8,11 @@ use mathlib.Core.Logic.{by-cases}
 use mathlib.Core.Bool.{Bool, true, false, cond, _&&_, false≢true}
 use mathlib.Core.List.{List, _++_}
 use lib.ListN.{length, getD, set, drop, length-set, length-replicate, List·getD-eq-default}
-use lib.Seq.{set-out, getD-set-same, getD-set-other}
+use lib.Seq.{ext-getD, set-out, getD-set-same, getD-set-other}
 use lib.Dec.{eqb}
 use borrow.Author.Tests.{lt-ltb, le-ltb, eq-eqb, ne-eqb}
 use Rattle.sizes.specs.Sizes.{threadCount}
+use Rattle.answer.specs.Lists.{setFrom}
 use Rattle.answer.proofs.ListLaws.{getD-unset, length-setFrom, getD-setFrom, getD-clearFrom, setFrom-none, length-mixFrom, getD-mixFrom}
 use Rattle.answer.proofs.ListLaws.{mixFrom-none, partly}
 use Rattle.cache.specs.Cache.{cellCount, lineCount, lineOf, pendingPlace, cachedAt, persistedAt, isDurable, isPending, cacheOf}
@@ -169,7 +170,7 @@ module _ (cache : Cache) (sized : Sized cache) where
     pub flushOf-persisted : (cell : ℕ) → persistedAt (flushOf cache thread line) cell ≡ persistedAt cache cell
     flushOf-persisted cell = flushOf-by (λ c. persistedAt c cell ≡ persistedAt cache cell) (λ below within. refl) refl
 
-    -- no proof cites this law or that of a fence below: they notice wrong definitions of the marks (docs/WRONG-DEFINITIONS.md)
+    -- no proof cites this law: it notices wrong definitions of the marks (docs/WRONG-DEFINITIONS.md)
     pub flushOf-pending : (other at : ℕ) → other < threadCount → at < lineCount →
         isPending (flushOf cache thread line) other at ≡ cond (eqb other thread && eqb at line) true (isPending cache other at)
     flushOf-pending other at below within =
@@ -230,21 +231,37 @@ module _ (cache : Cache) (sized : Sized cache) where
         getD-clearFrom (λ place. eqb (place / lineCount) thread) (cache .pending) (pendingPlace other line) false ∙
         ap (λ (k : ℕ). cond (eqb k thread) false (isPending cache other line)) (omega arith)
 
-    -- a thread that is out of range changes nothing
-    pub fenceOf-out : threadCount ≤ thread → fenceOf cache thread ≡ cache
+    -- a thread that has no flush pending changes nothing
+    pub fenceOf-idle : ((line : ℕ) → line < lineCount → isPending cache thread line ≡ false) → fenceOf cache thread ≡ cache
     unfolding fenceOf
-    fenceOf-out out = λ i. record {
+    fenceOf-idle idle = λ i. record {
       cached = cache .cached;
       persisted =
           mixFrom-none (λ cell. isPending cache thread (lineOf cell)) (cache .cached) (cache .persisted)
-          (λ cell below. isPending-out cache sized thread (lineOf cell) out) i;
+          (λ cell below. idle (lineOf cell) (omega (arith, sized .persisted-long))) i;
       durable =
           setFrom-none (λ cell. isPending cache thread (lineOf cell)) true (cache .durable)
-          (λ cell below. isPending-out cache sized thread (lineOf cell) out) i;
+          (λ cell below. idle (lineOf cell) (omega (arith, sized .durable-long))) i;
       pending =
-          setFrom-none (λ place. eqb (place / lineCount) thread) false (cache .pending)
-          (λ place below. ne-eqb (place / lineCount) thread (omega (arith, sized .pending-long))) i;
+          ext-getD false (setFrom (λ place. eqb (place / lineCount) thread) false 0 (cache .pending)) (cache .pending)
+          (length-setFrom (λ place. eqb (place / lineCount) thread) false 0 (cache .pending))
+          (λ place below.
+          getD-clearFrom (λ place. eqb (place / lineCount) thread) (cache .pending) place false ∙ cleared place) i;
     }
+      where
+        cleared : (place : ℕ) →
+            cond (eqb (place / lineCount) thread) false (getD (cache .pending) place false) ≡ getD (cache .pending) place false
+        cleared place =
+            by-cases (ℕ-discrete (place / lineCount) thread)
+            (λ same.
+            let here : pendingPlace thread (place % lineCount) ≡ place = omega arith in
+            rw (eq-eqb (place / lineCount) thread same)
+            (sym (ap (λ (k : ℕ). getD (cache .pending) k false) (sym here) ∙ idle (place % lineCount) (omega arith))))
+            (λ differs. rw (ne-eqb (place / lineCount) thread differs))
+
+    -- a thread that is out of range changes nothing
+    pub fenceOf-out : threadCount ≤ thread → fenceOf cache thread ≡ cache
+    fenceOf-out out = fenceOf-idle (λ line within. isPending-out cache sized thread line out)
 
     pub fenceOf-kept : DurableKept cache → DurableKept (fenceOf cache thread)
     fenceOf-kept was = record {

@@ -6,7 +6,7 @@ use mathlib.Core.List.{List, _++_}
 use lib.ListN.{length, getD, set, drop, replicate}
 use lib.Dec.{eqb, ltb}
 use Rattle.sizes.specs.Sizes.{threadCount}
-use Rattle.answer.specs.Lists.{setFrom, mixFrom}
+use Rattle.answer.specs.Lists.{countBelow, setFrom, mixFrom}
 use Rattle.cache.specs.declared.Cache.{Cache}
 
 -- 128 cells, in 16 lines, under 4 threads
@@ -39,6 +39,10 @@ pendingPlace thread line = thread * lineCount + line
 -- the thread's mark is on the line, in document 01's words
 abbrev pub isPending : Cache → ℕ → ℕ → Bool
 isPending cache thread line = getD (cache .pending) (pendingPlace thread line) false
+
+-- document 02's "number of lines with this thread's mark", of whatever contents
+abbrev pub pendingCount : Cache → ℕ → ℕ
+pendingCount cache thread = countBelow lineCount (λ line. isPending cache thread line)
 
 -- "At the start both are the start cell and every cell is firm."
 unfoldable pub cacheOf : List ℕ → Cache

@@ -6,7 +6,7 @@ ghost use lib.ListN.{length};
 ghost use lib.Dec.{eqb};
 ghost use Rattle.sizes.specs.Sizes.{threadCount};
 ghost use Rattle.answer.specs.Lists.{setFrom};
-ghost use Rattle.cache.specs.Cache.{lineCount, cacheOf, isDurable, storeOf, flushOf, persistedInto};
+ghost use Rattle.cache.specs.Cache.{lineCount, cacheOf, isDurable, pendingCount, storeOf, flushOf, persistedInto};
 use sizes::CELLS;
 use sizes::LINE_CELLS;
 use sizes::LINES;
@@ -58,6 +58,24 @@ impl Cache {
         }
         let durable = self.durable;
         durable[cell]
+    }
+
+    // Of how many lines the thread has a flush pending; past the last thread of none.
+    pub fn pending_count(self, thread: usize) -> usize
+        ensures { λ r. ⌜ r ≡ pendingCount self thread ⌝ }
+    {
+        let mut count = 0;
+        if thread < THREADS {
+            let pending = self.pending;
+            let mut line = 0;
+            while line < LINES {
+                if pending[thread * LINES + line] {
+                    count += 1;
+                }
+                line += 1;
+            }
+        }
+        count
     }
 
     // The cell's cached content is the value, the cell is not durable, and no flush of its line is pending.

@@ -12,6 +12,7 @@ use crate::model;
 use crate::tally;
 use crate::tally::COUNTS;
 use answer::Answer;
+use kinds::FENCE;
 use kinds::LOG;
 use log::IMAGE_WORDS;
 use machine::Machine;
@@ -65,7 +66,8 @@ fn note_again(met: &mut [u64; COUNTS], past: &[u64], thread: u64, cell: u64) {
     }
 }
 
-// Counts a step's answer; a LOG's that is refused by 8 beside a full log; and a LOG's that is accepted and makes no entry.
+// Counts a step's answer; a LOG's that is refused by 8 beside a full log; a LOG's that is accepted and makes no entry; and a FENCE's that
+// is accepted, by what it carried.
 fn note(met: &mut [u64; COUNTS], past: &[u64], kind: u64, thread: u64, place: u64, answer: u64) {
     tally::add_answer(met, kind, answer);
     if kind == LOG && answer == 8 {
@@ -75,6 +77,13 @@ fn note(met: &mut [u64; COUNTS], past: &[u64], kind: u64, thread: u64, place: u6
     }
     if kind == LOG && answer == 0 {
         note_again(met, past, thread, place);
+    }
+    if kind == FENCE && answer == 0 {
+        tally::add_fence(
+            met,
+            model::has_marked_line(past, thread),
+            model::has_unfenced_entry(past, thread),
+        );
     }
 }
 

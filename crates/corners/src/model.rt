@@ -55,6 +55,16 @@ pub(crate) fn is_stored_since_entry(past: &[u64], thread: u64, cell: u64) -> boo
     entry != 0 && entry < history::last(past, history::STORE, thread, cell, step)
 }
 
+// After a history, some line has the thread's mark.
+pub(crate) fn has_marked_line(past: &[u64], thread: u64) -> bool {
+    0 < cells::marked_lines(past, thread, history::next_step(past))
+}
+
+// After a history, some entry of the thread is marked and not yet firm.
+pub(crate) fn has_unfenced_entry(past: &[u64], thread: u64) -> bool {
+    0 < logs::unfenced(past, thread, history::next_step(past))
+}
+
 // Writes the image of a cut after a history; 21, and the buffer as it was, where it is not of 1,156 words.
 pub(crate) fn cut(start: &[u64], past: &[u64], image: &mut [u64]) -> u64 {
     if image.len() == 1156 {

@@ -8,8 +8,8 @@ const ANSWERS: usize = 19;
 const RECOVERED: usize = 247;
 
 // The counts: of 13 kinds, "other" among them, times 19 answers; of twice five answers of recovery; of LOGs that a full log would refuse
-// too; and three of accepted LOGs of a cell with an entry in the current region.
-pub(crate) const COUNTS: usize = 261;
+// too; three of accepted LOGs of a cell with an entry in the current region; and four of accepted FENCEs.
+pub(crate) const COUNTS: usize = 265;
 
 // The place of the count of LOGs that a full log would refuse too.
 const CROWDED: usize = 257;
@@ -17,6 +17,9 @@ const CROWDED: usize = 257;
 // Where the counts of accepted LOGs of a cell with an entry in the current region begin: of all, of those after a STORE to the cell, and of
 // those with a full log.
 const AGAIN: usize = 258;
+
+// Where the counts of accepted FENCEs begin: of those that carried nothing, lines alone, entries alone, and both.
+const FENCES: usize = 261;
 
 // Counts one more.
 fn raise(met: &mut [u64; COUNTS], at: usize) {
@@ -64,6 +67,19 @@ pub(crate) fn add_again(met: &mut [u64; COUNTS], is_stored: bool, is_full: bool)
     }
     if is_full {
         raise(met, AGAIN + 2);
+    }
+}
+
+// Counts an accepted FENCE that carried lines, or did not, and entries, or did not.
+pub(crate) fn add_fence(met: &mut [u64; COUNTS], has_lines: bool, has_entries: bool) {
+    if has_lines && has_entries {
+        raise(met, FENCES + 3);
+    } else if has_entries {
+        raise(met, FENCES + 2);
+    } else if has_lines {
+        raise(met, FENCES + 1);
+    } else {
+        raise(met, FENCES);
     }
 }
 
@@ -247,7 +263,12 @@ pub(crate) fn print(met: &[u64; COUNTS]) {
     io::print_decimal(1, count(met, AGAIN + 2));
     io::write_all(
         1,
-        b"\nimages by recovery's answer, those of cuts and damaged ones:\n",
+        b"\naccepted FENCEs that carried nothing, lines, entries, and both:",
+    );
+    print_counts(met, FENCES, 4);
+    io::write_all(
+        1,
+        b"images by recovery's answer, those of cuts and damaged ones:\n",
     );
     print_recovered(met);
 }

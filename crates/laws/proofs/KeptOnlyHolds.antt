@@ -18,6 +18,7 @@ use Rattle.cache.specs.Cache.{cellCount, lineOf, cachedAt, persistedAt, isPendi
 use Rattle.cache.specs.declared.Cache.{Cache}
 use Rattle.cache.proofs.CacheLaws as CacheLaws
 use Rattle.ring.specs.Ring.{slotCount, slotOf}
+use Rattle.tail.specs.Tail.{unfenced}
 use Rattle.log.specs.Entries.{zeros, slotWords, appendOf, flushLogOf, fenceLogOf, evictSlotOf, dropOf}
 use Rattle.log.specs.Stretch.{imageWords, headsAt, entryWords, stretchWords, stretchAt}
 use Rattle.log.specs.declared.Entry.{Entry}
@@ -189,7 +190,7 @@ fenced-log : (thread : ℕ) (log : Log) → KeptLog (isFlushedWord log thread) t
 unfolding fenceLogOf
 fenced-log thread log =
     let first : ℕ = log .tail .durable .0 + 1 in
-    let count : ℕ = log .tail .flushed .0 - log .tail .durable .0 in
+    let count : ℕ = unfenced (log .tail) in
     kept-slots (λ fails. refl)
     (λ slot index inEntry fails.
     run-elsewhere (log .cached) (log .persisted) first count slot

@@ -9,6 +9,8 @@ pub mod RepeatLaw
 pub mod FinishedLaw
 -- persisted contents
 pub mod KeptOnlyHolds
+-- wasted fences
+pub mod WastedFence
 -- log's sum
 pub mod LogSumHolds
 -- evictions before a cut

@@ -1,16 +1,18 @@
 -- The law on refusal 16: a lock's counter is the number of its accepted LOGREL steps whose region the reference model has committed.
-use Prim.Native.Nat.{ℕ, zero, suc}
-use mathlib.Core.Path.{_≡_, refl, sym, ap, _∙_}
+use Prim.Native.Nat.{ℕ}
+use mathlib.Core.Path.{_≡_, sym, ap, _∙_}
 use mathlib.Core.Bool.{Bool}
 use mathlib.Core.List.{List}
 use mathlib.Core.Option.{some}
 use lib.ListN.{length}
+use Rattle.answer.specs.Lists.{countBelow}
+use Rattle.answer.proofs.BelowLaws.{countBelow-same}
 use Rattle.machine.specs.declared.Machine.{Machine}
 use Rattle.reference.specs.Reference.{joins, isCommittedAt}
-use Rattle.atomicity.specs.History.{Fed, stepAt, bookBefore, historyAfter}
-use Rattle.laws.specs.PrunedRegions.{endsCommitted, countCommitted, PrunedLaw}
+use Rattle.atomicity.specs.History.{Fed, stepAt, bookBefore}
+use Rattle.laws.specs.PrunedRegions.{endsCommitted, PrunedLaw}
 use Rattle.atomicity.proofs.Logged.{Entries}
-use Rattle.atomicity.proofs.PrunedCounts.{countBelow, prunedTest}
+use Rattle.atomicity.proofs.PrunedCounts.{prunedTest}
 use Rattle.atomicity.proofs.Regions.{joinedPlace, joins-release}
 use Rattle.atomicity.proofs.ReleaseSteps.{releases-agree}
 use Rattle.atomicity.proofs.RunInvariant.{RunInvariant, bookOf}
@@ -38,12 +40,11 @@ module _ {start : Beginning} {machine : Machine} {history : List Fed} (runHolds 
       runHolds .joined place (joinedPlace book thread) (record { isAccepted = releases .isAccepted; joinedRegion = joinedRegion }) in
       rw joinedRegion (ap (isCommittedAt (bookOf start history .regions)) (sym (found .1)) ∙ runHolds .regions .committed (found .0)))
 
-  count-committed : (count : ℕ) → countCommitted (start .cells) history lock count ≡ countBelow isPruned count
-  unfolding countCommitted countBelow
-  count-committed zero = refl
-  count-committed (suc count) = rw (committed-test count, count-committed count)
+  count-committed : countBelow (length history) isPruned ≡ countBelow (length history) (endsCommitted (start .cells) history lock)
+  count-committed =
+      countBelow-same (length history) isPruned (endsCommitted (start .cells) history lock) (λ place below. sym (committed-test place))
 
 pub pruned-law : PrunedLaw
 pruned-law words steps lock inRange =
     let runHolds = after-run words steps in
-    runHolds .machineHolds .counted .number lock ∙ sym (count-committed runHolds lock (length (historyAfter words steps)))
+    runHolds .machineHolds .counted .number lock ∙ count-committed runHolds lock

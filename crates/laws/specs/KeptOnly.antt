@@ -1,6 +1,6 @@
 -- "Every cell, slot and head then holds its kept content, which only FENCE, the evictions and, for heads, PRUNE alter."
 -- The kept contents are `imageOf`; here it is said which of its words a step may alter, and that it alters no other.
-use Prim.Native.Nat.{ℕ, _+_, _-_, _*_}
+use Prim.Native.Nat.{ℕ, _+_, _*_}
 use mathlib.Core.Path.{_≡_}
 use mathlib.Core.Bool.{Bool, false, _&&_, _||_}
 use mathlib.Core.List.{List}
@@ -12,6 +12,7 @@ use Rattle.answer.specs.Lists.{someBelow}
 use Rattle.cache.specs.Cache.{cellCount, lineOf, isPending}
 use Rattle.cache.specs.declared.Cache.{Cache}
 use Rattle.ring.specs.Ring.{slotOf}
+use Rattle.tail.specs.Tail.{unfenced}
 use Rattle.log.specs.Stretch.{imageWords, headsAt, entryWords, stretchAt}
 use Rattle.log.specs.declared.Log.{Log}
 use Rattle.kinds.specs.Kinds.{Kind, LOAD, LOG, STORE, ACQUIRE, LOGREL, RELEASE, FLUSH, FLUSHLOG, FENCE, PRUNE, EVICT, EVICTLOG, kindOf}
@@ -42,7 +43,7 @@ isPendingWord cache thread word = ltb word cellCount && isPending cache thread (
 abbrev pub isFlushedWord : Log → ℕ → ℕ → Bool
 isFlushedWord log thread word =
     let tail = log .tail in
-    someBelow (tail .flushed .0 - tail .durable .0) (λ index. isSlotWord thread (slotOf (tail .durable .0 + 1 + index)) word)
+    someBelow (unfenced tail) (λ index. isSlotWord thread (slotOf (tail .durable .0 + 1 + index)) word)
 
 -- "only FENCE, the evictions and, for heads, PRUNE": the words that an accepted step may alter, by its kind, thread and place
 unfoldable pub alteredBy : Machine → Option Kind → ℕ → ℕ → ℕ → Bool

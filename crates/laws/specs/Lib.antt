@@ -1,6 +1,7 @@
--- The laws on refusals 10, 12, 13, 15 and 16, on LOGs that append nothing, on what alters an image, and the log's sum.
+-- The laws on refusals 10, 12, 13, 15 and 16, on LOGs that append nothing, on what alters an image, on wasted fences, and the log's sum.
 pub mod RefusalLaws
 pub mod PrunedRegions
 pub mod KeptOnly
+pub mod WastedFence
 pub mod LogSum
 pub mod AnyEviction

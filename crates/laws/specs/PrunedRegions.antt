@@ -1,12 +1,13 @@
 -- The number that refusal 16 compares, by document 01's words, and the law that the machine's counter is it.
-use Prim.Native.Nat.{ℕ, zero, suc, _+_, _<_}
+use Prim.Native.Nat.{ℕ, _<_}
 use mathlib.Core.Path.{_≡_}
-use mathlib.Core.Bool.{Bool, false, cond, _&&_}
+use mathlib.Core.Bool.{Bool, false, _&&_}
 use mathlib.Core.List.{List}
 use mathlib.Core.Option.{Option, none, some}
 use lib.ListN.{length}
 use lib.Dec.{eqb}
 use Rattle.sizes.specs.Sizes.{lockCount}
+use Rattle.answer.specs.Lists.{countBelow}
 use Rattle.machine.specs.Holds.{lockOf}
 use Rattle.machine.specs.Runs.{Step}
 use Rattle.reference.specs.Reference.{Book, emptyBook, joins, isCommittedAt}
@@ -27,15 +28,9 @@ endsCommitted cells history lock place =
     (fedBook (emptyBook cells) history)
     (joins (bookBefore cells history place) (stepAt history place .kind) (stepAt history place .thread))
 
--- how many of the first so many steps are accepted LOGRELs of the lock whose region is committed by now
-unfoldable pub countCommitted : List ℕ → List Fed → ℕ → ℕ → ℕ
-countCommitted cells history lock zero = 0
-countCommitted cells history lock (suc count) =
-    cond (endsCommitted cells history lock count) 1 0 + countCommitted cells history lock count
-
 -- "regions ending in a RELEASE of that lock are pruned": how many. A region ends in at most one RELEASE.
 abbrev pub prunedReleases : List ℕ → List Fed → ℕ → ℕ
-prunedReleases cells history lock = countCommitted cells history lock (length history)
+prunedReleases cells history lock = countBelow (length history) (endsCommitted cells history lock)
 
 -- the law on refusal 16: a lock's counter is how many regions that end in a RELEASE of it are pruned
 abbrev pub PrunedLaw : Type 0

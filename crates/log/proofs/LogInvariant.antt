@@ -10,7 +10,7 @@ use lib.ListN.{length, getD, length-set}
 use lib.Seq.{getD-set-same, getD-set-other}
 use Rattle.answer.proofs.RefusalLaws.{AllFail}
 use Rattle.ring.specs.Ring.{slotCount, lastLsn, lsn, slotOf}
-use Rattle.tail.specs.Tail.{flushedTail, fencedTail}
+use Rattle.tail.specs.Tail.{unfenced, flushedTail, fencedTail}
 use Rattle.append.specs.Append.{grownTail, roomTests}
 use Rattle.tail.specs.declared.Releasing.{Releasing}
 use Rattle.tail.specs.declared.Tail.{Tail}
@@ -191,7 +191,7 @@ module _ (log : Log) (says : ℕ → Payload) (inv : LogHolds log says) where
   unfolding fenceLogOf fencedTail
   fence-holds =
       let first = log .tail .durable .0 + 1 in
-      let count = log .tail .flushed .0 - log .tail .durable .0 in
+      let count = unfenced (log .tail) in
       from-words
       (fenceLogOf log)
       says

@@ -1,6 +1,6 @@
 -- One log: its entries, whatever they say, the words that they are persisted as, what appends, flushes, fences, evictions and dropped
 -- entries do to it, and the writer of its stretch.
-use Prim.Native.Nat.{ℕ, zero, suc, _+_, _-_}
+use Prim.Native.Nat.{ℕ, zero, suc, _+_}
 use mathlib.Core.Bool.{Bool, cond, not, _&&_}
 use mathlib.Core.List.{List, [], _∷_, _++_, map, flatten}
 use lib.ListN.{length, getD, set, replicate, drop}
@@ -9,7 +9,7 @@ use Rattle.answer.specs.Lists.{someBelow}
 use Rattle.answer.specs.Refusals.{Test, _⇒_, unless}
 use Rattle.answer.specs.declared.Answer.the-variants.{Accepted, NoLiveEntry}
 use Rattle.ring.specs.Ring.{slotCount, lsn, slotOf}
-use Rattle.tail.specs.Tail.{liveOf, freshTail, flushedTail, fencedTail}
+use Rattle.tail.specs.Tail.{liveOf, unfenced, freshTail, flushedTail, fencedTail}
 use Rattle.append.specs.Append.{grownTail, roomTests}
 use Rattle.ring.specs.declared.Lsn.{Lsn}
 use Rattle.tail.specs.declared.Releasing.{Releasing}
@@ -107,12 +107,7 @@ persistFrom cached persisted number (suc count) =
 unfoldable pub fenceLogOf : Log → Log
 fenceLogOf log = record {
   cached = log .cached;
-  persisted =
-      persistFrom
-      (log .cached)
-      (log .persisted)
-      (log .tail .durable .0 + 1)
-      (log .tail .flushed .0 - log .tail .durable .0);
+  persisted = persistFrom (log .cached) (log .persisted) (log .tail .durable .0 + 1) (unfenced (log .tail));
   head = log .head;
   tail = fencedTail (log .tail);
 }

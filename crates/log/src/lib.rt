@@ -146,8 +146,7 @@ impl Log {
     {
         let before = self.tail;
         let durable = before.durable;
-        let flushed = before.flushed;
-        let count = flushed.since(durable) as usize;
+        let count = before.unfenced() as usize;
         let mut done = 0;
         while done < count {
             let slot = slot_after(durable, done + 1);

@@ -1,8 +1,9 @@
 -- "Steps": what each kind does once no refusal holds, and the number that it answers.
-use Prim.Native.Nat.{ℕ, _-_}
+use Prim.Native.Nat.{ℕ, _+_, _-_}
 use Rattle.answer.specs.declared.Answer.the-variants.{Accepted}
-use Rattle.cache.specs.Cache.{cachedAt, storeOf, flushOf, fenceOf, evictOf}
+use Rattle.cache.specs.Cache.{cachedAt, pendingCount, storeOf, flushOf, fenceOf, evictOf}
 use Rattle.undo.specs.Events.{liveEvent, enterOf, endReleaseOf}
+use Rattle.tail.specs.Tail.{unfenced}
 use Rattle.log.specs.Entries.{flushLogOf, fenceLogOf, evictSlotOf, dropOf}
 use Rattle.undo.specs.Regions.{oldestRegion, loggedOf}
 use Rattle.undo.specs.declared.Event.{Event}
@@ -97,11 +98,12 @@ unfoldable pub flushLogEffect : Machine → ℕ → Stepped
 flushLogEffect machine thread = accepted 0 (withLog machine thread (flushLogOf (logOf machine thread)))
 
 -- "FENCE: each data line with this thread's mark has its seen content kept, its 8 cells are firm, this mark goes. This thread's marked
--- entries are kept and firm."
+-- entries are kept and firm." Document 02: it "answers the number of lines with this thread's mark plus its marked entries not yet firm,
+-- both as before the step".
 unfoldable pub fenceEffect : Machine → ℕ → Stepped
 fenceEffect machine thread =
     accepted
-    0
+    (pendingCount (machine .cache) thread + unfenced (logOf machine thread .tail))
     (withLog (withCache machine (fenceOf (machine .cache) thread)) thread (fenceLogOf (logOf machine thread)))
 
 -- where the pruned region's last entry is a RELEASE, it counts for that lock

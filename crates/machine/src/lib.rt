@@ -337,7 +337,8 @@ impl Machine {
         }
     }
 
-    // FENCE: the thread's pending flushes of lines complete, and its flushed entries become persisted and durable.
+    // FENCE: the thread's pending flushes of lines complete, and its flushed entries become persisted and durable. The answer is how many
+    // of both there were.
     pub fn fence(mut self, thread: u64) -> Stepped
         requires { ⌜ Reached self ⌝ }
         ensures { λ r. ⌜ r ≡ stepOf self 9 thread 0 0 ⌝ }
@@ -347,8 +348,11 @@ impl Machine {
             let at = thread as usize;
             let cache = self.cache;
             let log = self.logs[at];
+            let tail = log.tail;
+            let carried = writeback::carried(cache, tail, at);
             let fenced = writeback::fence(cache, at);
             let durable = log.fence();
+            answer = Answer::Accepted(carried);
             self.cache = fenced;
             self.logs[at] = durable;
         }

@@ -4,7 +4,7 @@ use mathlib.Core.Path.{_≡_, refl, ap₂}
 use mathlib.Core.Bool.{Bool, true, false, _&&_}
 use mathlib.Core.List.{List, [], _∷_, map, flatten}
 use lib.Dec.{T, eqb, eqb→eq}
-use Rattle.answer.specs.Lists.{tab, someBelow, setFrom, mixFrom}
+use Rattle.answer.specs.Lists.{tab, someBelow, countBelow, setFrom, mixFrom}
 use Rattle.answer.specs.Refusals.{unless}
 use Rattle.cache.specs.Cache.{cacheOf, storeOf, flushOf, fenceOf, evictOf}
 use Rattle.tail.specs.Tail.{freshTail, flushedTail, fencedTail, releasedTail}
@@ -42,7 +42,7 @@ same (x ∷ xs) (y ∷ ys) = eqb x y && same xs ys
 
 -- each row gives what is asked. What stands under it is unfolded with it: each definition of the machine and of recovery that rows reach.
 unfoldable pub allGiven : List Row → Bool
-unfolding same flatten tab someBelow setFrom mixFrom unless cacheOf storeOf flushOf fenceOf evictOf freshTail grownTail
+unfolding same flatten tab someBelow countBelow setFrom mixFrom unless cacheOf storeOf flushOf fenceOf evictOf freshTail grownTail
     roomTests flushedTail fencedTail releasedTail wordsOf freshLog isLiveSlot appendOf flushLogOf endReleaseOf eventOf
     persistSlot persistFrom fenceLogOf evictSlotTests evictSlotOf dropOf loggedAmong loggedOf goesOn oldestRegion
     isFinished stretchOf holds presentFrom presentOf clockAt joinOf raisedOf loadedOf loggedCellOf loadEffect firstLogEffect logEffect

@@ -1,6 +1,6 @@
--- Document 01's numbers, bounds and orders of tests, with LOG as document 02 has it, as a second table beside that of the P points: each
--- row stands under the words that it is read from. Where steps get to an edge only after very many, or never, a row begins at a machine
--- that is written down; images that no machine makes are written down too.
+-- Document 01's numbers, bounds and orders of tests, with LOG and FENCE as document 02 has them, as a second table beside that of the P
+-- points: each row stands under the words that it is read from. Where steps get to an edge only after very many, or never, a row begins
+-- at a machine that is written down; images that no machine makes are written down too.
 use Prim.Native.Nat.{ℕ, _+_, _-_}
 use mathlib.Core.Path.{_≡_}
 use mathlib.Core.Bool.{cond}
@@ -336,17 +336,17 @@ againRows =
     (given start logs64 gives tab 64 (λ cell. cell + 1) ++ (0 ∷ 10 ∷ 64 ∷ 0 ∷ [])) ∷
     -- 7 comes before it; a region that an ACQUIRE began, or that begins after a RELEASE, has no entry of the cell: the next rank is given
     (takes start logsNine gives (0 ∷ 0 ∷ 0 ∷ 0 ∷ 0 ∷ 0 ∷ 7 ∷ []) ++ (0 ∷ 0 ∷ 7 ∷ 0 ∷ 0 ∷ 0 ∷ 0 ∷ 0 ∷ [])) ∷
-    (given start logsNine gives (1 ∷ 1 ∷ 0 ∷ 3 ∷ 3 ∷ 0 ∷ 0 ∷ []) ++ (0 ∷ 0 ∷ 0 ∷ 0 ∷ 5 ∷ 5 ∷ 6 ∷ 5 ∷ [])) ∷
+    (given start logsNine gives (1 ∷ 1 ∷ 0 ∷ 3 ∷ 3 ∷ 0 ∷ 0 ∷ []) ++ (0 ∷ 4 ∷ 0 ∷ 0 ∷ 5 ∷ 5 ∷ 6 ∷ 5 ∷ [])) ∷
     -- ranks 62 to 64 sit in slots 62, 63 and 0
     (given ranks62 (LOG 3 5 ∷ LOG 3 6 ∷ LOG 3 7 ∷ LOG 3 8 ∷ []) gives 62 ∷ 63 ∷ 64 ∷ 65 ∷ []) ∷
     -- a STORE asks for the first entry to be firm, and that entry's old content is what recovery writes back
     (takes start storesNine gives replicate 8 0) ∷
-    (given start storesNine gives 1 ∷ 0 ∷ 0 ∷ 1 ∷ 0 ∷ 1 ∷ 0 ∷ 1 ∷ []) ∷
+    (given start storesNine gives 1 ∷ 0 ∷ 1 ∷ 1 ∷ 0 ∷ 1 ∷ 0 ∷ 1 ∷ []) ∷
     (words 132 12 (ran (storesNine ++ (FLUSHLOG 0 ∷ FENCE 0 ∷ []))) gives entry 0 0 0 0 ++ entry 1 9 109 1 ++ entry 0 0 0 0) ∷
     (recovered numbered (storesNine ++ (FLUSHLOG 0 ∷ FENCE 0 ∷ EVICT 1 ∷ [])) gives 0 ∷ numbered) ∷
     -- it "appends nothing": one entry is live, the next LOG has the next rank, and PRUNE frees the entries of cells 9 and 10
     (asks (ran storesNine) (EVICTLOG 0 1 ∷ EVICTLOG 0 2 ∷ []) gives 0 ∷ 18 ∷ []) ∷
-    (given (ran storesNine) endsNine gives 2 ∷ 0 ∷ 0 ∷ 0 ∷ 0 ∷ 2 ∷ []) ∷
+    (given (ran storesNine) endsNine gives 2 ∷ 0 ∷ 0 ∷ 0 ∷ 3 ∷ 2 ∷ []) ∷
     -- another thread's accesses race with it as with the first LOG, and come after both through the lock
     (asks (ran storesNine) (LOAD 1 9 ∷ LOG 1 9 ∷ LOAD 1 10 ∷ LOG 1 10 ∷ []) gives 8 ∷ 8 ∷ 0 ∷ 0 ∷ []) ∷
     (asks (ran passesNine) (LOAD 1 9 ∷ LOG 1 9 ∷ LOAD 2 9 ∷ LOG 2 9 ∷ []) gives 0 ∷ 0 ∷ 8 ∷ 8 ∷ []) ∷
@@ -384,18 +384,20 @@ refusals =
 
 unfoldable pub givenRows : List Row
 givenRows =
-    -- "all with answer 0 and value 0 but `n=2 answer=0 value=2` and `n=11 answer=0 value=3`; then `cell=5 holds=7`"
+    -- "all with answer 0 and value 0 but `n=2 answer=0 value=2` and `n=11 answer=0 value=3`; then `cell=5 holds=7`"; document 02: "lines 4
+    -- and 9 then show value 2"
     (answered zeroCells worked gives replicate 11 0) ∷
-    (given (startMachine zeroCells) worked gives 0 ∷ 2 ∷ 0 ∷ 0 ∷ 0 ∷ 0 ∷ 0 ∷ 0 ∷ 0 ∷ 0 ∷ 3 ∷ []) ∷
+    (given (startMachine zeroCells) worked gives 0 ∷ 2 ∷ 0 ∷ 2 ∷ 0 ∷ 0 ∷ 0 ∷ 0 ∷ 2 ∷ 0 ∷ 3 ∷ []) ∷
     (recovered zeroCells worked gives 0 ∷ set zeroCells 5 7) ∷
-    -- LOAD "answers its seen content", LOG "the rank", ACQUIRE and LOGREL "the count", PRUNE "how many entries that freed"; "else 0"
+    -- LOAD "answers its seen content", LOG "the rank", ACQUIRE and LOGREL "the count", FENCE what it carried, PRUNE "how many entries that
+    -- freed"; "else 0"
     (answered numbered (turns ++ afterTurns) gives replicate 39 0) ∷
     (given start turns gives
-    (0 ∷ 2 ∷ 0 ∷ 0 ∷ 0 ∷ 0 ∷ 0 ∷ 0 ∷ 0 ∷ []) ++
-    (1 ∷ 2 ∷ 0 ∷ 0 ∷ 0 ∷ 1 ∷ 0 ∷ 0 ∷ 0 ∷ []) ++
-    (2 ∷ 5 ∷ 0 ∷ 0 ∷ 0 ∷ 2 ∷ 0 ∷ 0 ∷ 0 ∷ [])) ∷
-    (given (ran turns) afterTurns gives 3 ∷ 6 ∷ 227 ∷ 0 ∷ 3 ∷ 0 ∷ 0 ∷ 0 ∷ 0 ∷ 3 ∷ 3 ∷ 3 ∷ []) ∷
-    (given (ran (makes 0 4 ++ follows)) prunes gives 0 ∷ 0 ∷ 0 ∷ 0 ∷ 0 ∷ 0 ∷ 0 ∷ 0 ∷ 3 ∷ 0 ∷ 0 ∷ 0 ∷ 4 ∷ 0 ∷ []) ∷
+    (0 ∷ 2 ∷ 0 ∷ 2 ∷ 0 ∷ 0 ∷ 0 ∷ 1 ∷ 0 ∷ []) ++
+    (1 ∷ 2 ∷ 0 ∷ 2 ∷ 0 ∷ 1 ∷ 0 ∷ 1 ∷ 0 ∷ []) ++
+    (2 ∷ 5 ∷ 0 ∷ 2 ∷ 0 ∷ 2 ∷ 0 ∷ 1 ∷ 0 ∷ [])) ∷
+    (given (ran turns) afterTurns gives 3 ∷ 6 ∷ 227 ∷ 0 ∷ 3 ∷ 0 ∷ 1 ∷ 0 ∷ 0 ∷ 3 ∷ 3 ∷ 3 ∷ []) ∷
+    (given (ran (makes 0 4 ++ follows)) prunes gives 0 ∷ 0 ∷ 0 ∷ 0 ∷ 2 ∷ 0 ∷ 0 ∷ 1 ∷ 3 ∷ 0 ∷ 0 ∷ 1 ∷ 4 ∷ 0 ∷ []) ∷
     -- "no state or buffer changes and the number beside is 0"
     (answered numbered refusals gives
     (0 ∷ 11 ∷ 8 ∷ 8 ∷ 0 ∷ 0 ∷ []) ++
@@ -405,8 +407,8 @@ givenRows =
     (given start refusals gives
     (1 ∷ 0 ∷ 0 ∷ 0 ∷ 109 ∷ 1 ∷ []) ++
     (0 ∷ 0 ∷ 0 ∷ 2 ∷ 0 ∷ 0 ∷ 0 ∷ 0 ∷ []) ++
-    (0 ∷ 0 ∷ 0 ∷ 0 ∷ 0 ∷ 0 ∷ 1 ∷ []) ++
-    (0 ∷ 0 ∷ 0 ∷ 2 ∷ 4 ∷ [])) ∷
+    (0 ∷ 0 ∷ 0 ∷ 3 ∷ 0 ∷ 0 ∷ 1 ∷ []) ++
+    (0 ∷ 0 ∷ 3 ∷ 2 ∷ 4 ∷ [])) ∷
     (map valueOf (NoSuchKind ∷ NoSuchThread ∷ NoSuchPlace ∷ UnusedField ∷ []) gives replicate 4 0) ∷
     (map valueOf (LogFull ∷ LsnsUsedUp ∷ Releasing ∷ Race ∷ NotLogged ∷ EntryNotDurable ∷ []) gives replicate 6 0) ∷
     (map valueOf (LockHeld ∷ LockNotHeld ∷ NotReleasing ∷ NothingToPrune ∷ []) gives replicate 4 0) ∷
@@ -448,6 +450,34 @@ keptRows =
     (frees (FLUSH 0 1 ∷ FLUSH 0 2 ∷ FENCE 0 ∷ []) gives 17 ∷ []) ∷
     (frees (FLUSH 0 0 ∷ FLUSH 0 2 ∷ FLUSH 1 1 ∷ FENCE 0 ∷ []) gives 17 ∷ []) ∷
     (frees (FLUSH 0 0 ∷ FLUSH 0 2 ∷ FLUSH 1 1 ∷ FENCE 0 ∷ FENCE 1 ∷ []) gives 0 ∷ []) ∷ []
+
+-- ---- what a fence carried
+
+-- thread 3 flushes all lines, and as many entries as its log holds
+unfoldable pub flushesAll : List Step
+flushesAll = tab 64 (λ cell. LOG 3 cell) ++ (FLUSHLOG 3 ∷ []) ++ tab 16 (λ line. FLUSH 3 line)
+
+-- "FENCE now answers the number of lines with this thread's mark plus its marked entries not yet firm, both as before the step."
+unfoldable pub fenceRows : List Row
+fenceRows =
+    -- all lines and a full log; a FENCE that follows carries nothing
+    (given (ran flushesAll) (FENCE 3 ∷ FENCE 3 ∷ []) gives 80 ∷ 0 ∷ []) ∷
+    (given start (FENCE 0 ∷ FLUSH 0 0 ∷ FENCE 0 ∷ FLUSH 0 15 ∷ FENCE 0 ∷ FENCE 0 ∷ []) gives 0 ∷ 0 ∷ 1 ∷ 0 ∷ 1 ∷ 0 ∷ []) ∷
+    -- "with this thread's mark", of which a line has one at most
+    (given start (FLUSH 0 1 ∷ FLUSH 1 1 ∷ FLUSH 1 2 ∷ FENCE 0 ∷ FENCE 1 ∷ FENCE 2 ∷ []) gives 0 ∷ 0 ∷ 0 ∷ 1 ∷ 2 ∷ 0 ∷ []) ∷
+    (given start (FLUSH 2 1 ∷ FLUSH 2 1 ∷ FLUSH 2 2 ∷ FENCE 2 ∷ []) gives 0 ∷ 0 ∷ 0 ∷ 2 ∷ []) ∷
+    -- an EVICT leaves the mark, though what it kept is the seen content; a STORE to the line takes all threads' marks
+    (given (ran stored) (FLUSH 0 0 ∷ FLUSH 0 1 ∷ EVICT 1 ∷ FENCE 0 ∷ []) gives 0 ∷ 0 ∷ 0 ∷ 2 ∷ []) ∷
+    (given (ran stored) (FLUSH 0 0 ∷ FLUSH 0 1 ∷ FLUSH 1 1 ∷ STORE 0 8 9 ∷ FENCE 0 ∷ FENCE 1 ∷ []) gives 0 ∷ 0 ∷ 0 ∷ 0 ∷ 1 ∷ 0 ∷ []) ∷
+    -- "its marked entries": not those made later, nor another thread's
+    (given start (LOG 0 5 ∷ FENCE 0 ∷ FLUSHLOG 0 ∷ LOG 0 6 ∷ FENCE 1 ∷ FENCE 0 ∷ []) gives 1 ∷ 0 ∷ 0 ∷ 2 ∷ 0 ∷ 1 ∷ []) ∷
+    -- "not yet firm", which an EVICTLOG leaves them
+    (given (ran stored) (LOG 0 9 ∷ LOG 0 10 ∷ FLUSHLOG 0 ∷ EVICTLOG 0 5 ∷ FENCE 0 ∷ FLUSHLOG 0 ∷ FENCE 0 ∷ []) gives
+    5 ∷ 6 ∷ 0 ∷ 0 ∷ 2 ∷ 0 ∷ 0 ∷ []) ∷
+    -- after ranks 63 and 64, which sit in slots 63 and 0
+    (given (fromRank 2 63) (LOG 2 5 ∷ LOG 2 6 ∷ FLUSHLOG 2 ∷ FENCE 2 ∷ []) gives 63 ∷ 64 ∷ 0 ∷ 2 ∷ []) ∷
+    -- "the number beside is 0" where a FENCE is refused, and the mark stays
+    (given (ran (FLUSH 0 1 ∷ [])) (step 9 0 1 0 ∷ step 9 0 0 1 ∷ step 9 4 0 0 ∷ FENCE 0 ∷ []) gives 0 ∷ 0 ∷ 0 ∷ 1 ∷ []) ∷ []
 
 -- ---- start, cut and image
 
@@ -617,7 +647,9 @@ otherRows =
 
 unfoldable pub edges : List Row
 edges =
-    inputRows ++ stateRows ++ pruneRows ++ roomRows ++ againRows ++ givenRows ++ keptRows ++ imageRows ++ recoveryRows ++ otherRows
+    inputRows ++
+    stateRows ++
+    pruneRows ++ roomRows ++ againRows ++ givenRows ++ keptRows ++ fenceRows ++ imageRows ++ recoveryRows ++ otherRows
 
 -- what document 01 asks at its edges is what the definitions give
 abbrev pub Edges : Type 0

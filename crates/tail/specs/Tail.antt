@@ -11,6 +11,10 @@ use Rattle.tail.specs.declared.Tail.{Tail}
 abbrev pub liveOf : Tail → ℕ → ℕ
 liveOf tail head = tail .next .0 - head
 
+-- document 02's "marked entries not yet firm": how many there are. Firm are the entries up to one rank, marked those up to another.
+abbrev pub unfenced : Tail → ℕ
+unfenced tail = tail .flushed .0 - tail .durable .0
+
 -- the thread is closing, in document 01's words
 abbrev pub isReleasing : Releasing → Bool
 isReleasing Nothing = false

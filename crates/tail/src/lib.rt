@@ -1,6 +1,6 @@
 // The thread's record: how far its log has come, and the lock that it is releasing. Knows nothing of what an entry says.
 ghost use mathlib.Core.Path.{_≡_};
-ghost use Rattle.tail.specs.Tail.{liveOf, isReleasing, isReleasingLock, flushedTail, fencedTail, releasedTail};
+ghost use Rattle.tail.specs.Tail.{liveOf, unfenced, isReleasing, isReleasingLock, flushedTail, fencedTail, releasedTail};
 use ring::Lsn;
 
 // The lock that a thread is releasing (document 01: closing), between its RELEASE entry and its RELEASE step.
@@ -24,6 +24,15 @@ impl Tail {
     {
         let next = self.next;
         next.since(head)
+    }
+
+    // How many entries are flushed and not durable: those that a fence makes durable.
+    pub fn unfenced(self) -> u32
+        ensures { λ r. ⌜ r ≡ unfenced self ⌝ }
+    {
+        let flushed = self.flushed;
+        let durable = self.durable;
+        flushed.since(durable)
     }
 
     // The thread has made a RELEASE entry whose RELEASE step is still to come.

@@ -1,16 +1,19 @@
-// Lines on their way from the cache to persistent memory: by a fence that completes flushes, and by an eviction.
+// What is on its way from the cache to persistent memory: lines, by a fence that completes flushes or by an eviction, and how much a fence
+// carries.
 ghost use mathlib.Core.Path.{_≡_};
 ghost use mathlib.Core.Bool.{true};
-ghost use Prim.Native.Nat.{_<_};
+ghost use Prim.Native.Nat.{_+_, _<_};
 ghost use lib.ListN.{length};
 ghost use lib.Dec.{eqb};
 ghost use Rattle.answer.specs.Lists.{setFrom, mixFrom};
-ghost use Rattle.cache.specs.Cache.{cellCount, lineCount, lineOf, fenceOf, evictOf};
+ghost use Rattle.cache.specs.Cache.{cellCount, lineCount, lineOf, pendingCount, fenceOf, evictOf};
+ghost use Rattle.tail.specs.Tail.{unfenced};
 use cache::Cache;
 use sizes::CELLS;
 use sizes::LINE_CELLS;
 use sizes::LINES;
 use sizes::THREADS;
+use tail::Tail;
 
 // Copies the eight cells of a line.
 fn copy_line(from: &[u64; CELLS], to: &mut [u64; CELLS], line: usize)
@@ -56,6 +59,16 @@ pub fn fence(mut cache: Cache, thread: usize) -> Cache
         }
     }
     cache
+}
+
+// How much a fence by the thread whose record this is carries: the lines of which it has a flush pending, and its flushed entries that are
+// not durable.
+pub fn carried(cache: Cache, tail: Tail, thread: usize) -> u64
+    ensures { λ r. ⌜ r ≡ pendingCount cache thread + unfenced tail ⌝ }
+{
+    let lines = cache.pending_count(thread);
+    let entries = tail.unfenced();
+    lines as u64 + entries as u64
 }
 
 // The line's cached content is persisted. No cell becomes durable by it.

@@ -1,4 +1,5 @@
 // Cells and locks: what each holds just before the step with the number `before`.
+ghost use Prim.Native.Nat.{_≤_};
 use crate::model::history;
 use crate::model::history::ANY;
 
@@ -26,6 +27,21 @@ fn is_marked(past: &[u64], thread: u64, line: u64, before: usize) -> bool {
         return false;
     }
     history::last(past, history::FENCE, thread, ANY, before) < flushed
+}
+
+// How many of the 16 lines have the thread's mark.
+pub(crate) fn marked_lines(past: &[u64], thread: u64, before: usize) -> u64
+    ensures { λ r. ⌜ r ≤ 16 ⌝ }
+{
+    let mut found: u64 = 0;
+    let mut line: u64 = 0;
+    while line < 16 {
+        if is_marked(past, thread, line, before) {
+            found += 1;
+        }
+        line += 1;
+    }
+    found
 }
 
 // The last FENCE whose thread had its mark on the line, and 0 where there is none.

@@ -68,6 +68,32 @@ pub(crate) fn is_firm(past: &[u64], thread: u64, entry: usize, before: usize) ->
     entry < history::last(past, history::FLUSHLOG, thread, ANY, fenced)
 }
 
+// An entry is marked where its thread took a FLUSHLOG after it.
+fn is_marked(past: &[u64], thread: u64, entry: usize, before: usize) -> bool {
+    entry < history::last(past, history::FLUSHLOG, thread, ANY, before)
+}
+
+// The step made an entry of the thread that is marked and not yet firm.
+fn is_unfenced(past: &[u64], thread: u64, step: usize, before: usize) -> bool {
+    if !history::is_step(past, step, history::ENTRY, thread, ANY) {
+        return false;
+    }
+    is_marked(past, thread, step, before) && !is_firm(past, thread, step, before)
+}
+
+// How many of the thread's entries are marked and not yet firm.
+pub(crate) fn unfenced(past: &[u64], thread: u64, before: usize) -> usize {
+    let mut found: usize = 0;
+    let mut step = 1;
+    while step < before {
+        if is_unfenced(past, thread, step, before) {
+            found += 1;
+        }
+        step += 1;
+    }
+    found
+}
+
 // The thread's RELEASE entry while it is closing, and 0 where it is not.
 pub(crate) fn closing(past: &[u64], thread: u64, before: usize) -> usize {
     let logged = history::last(past, history::LOGREL, thread, ANY, before);

@@ -266,8 +266,15 @@ fn logged_rank(past: &[u64], thread: u64, cell: u64, step: usize) -> u64 {
     logs::rank(past, thread, entry) as u64
 }
 
-// The number that an accepted step gives: a LOAD the seen content, a LOG a rank, an ACQUIRE or LOGREL the lock's count, a PRUNE how many
-// entries it freed; other kinds 0.
+// The number that a FENCE gives: how many lines have the thread's mark, and how many of its entries are marked and not yet firm. Ranks end
+// at 1,000,000, so the remainder is the number itself.
+fn carried(past: &[u64], thread: u64, step: usize) -> u64 {
+    let entries = logs::unfenced(past, thread, step) as u64;
+    cells::marked_lines(past, thread, step) + entries % 1000001
+}
+
+// The number that an accepted step gives: a LOAD the seen content, a LOG a rank, an ACQUIRE or LOGREL the lock's count, a FENCE what it
+// carried, a PRUNE how many entries it freed; other kinds 0.
 pub(crate) fn given(start: &[u64], past: &[u64], kind: u64, thread: u64, place: u64) -> u64 {
     let step = history::next_step(past);
     if kind == history::LOAD {
@@ -281,6 +288,9 @@ pub(crate) fn given(start: &[u64], past: &[u64], kind: u64, thread: u64, place: 
     }
     if kind == history::LOGREL {
         return cells::lock_count(past, place, step) as u64;
+    }
+    if kind == history::FENCE {
+        return carried(past, thread, step);
     }
     if kind == history::PRUNE {
         let first = logs::head(past, thread, step);

@@ -6,6 +6,7 @@ use native.Mathlib.Numerals.{add-one}
 use native.Mathlib.Omega.{arith}
 use borrow.Author.Needs.{needs}
 use Rattle.ring.specs.Ring.{slotOf}
+use Rattle.tail.specs.Tail.{unfenced}
 use Rattle.log.specs.Entries.{withTail, persistSlot, persistFrom, fenceLogOf}
 use Rattle.log.specs.declared.Entry.{Entry}
 use Rattle.log.specs.declared.Log.{Log}
@@ -23,8 +24,8 @@ Inv-loop self₀ before durable count done₀ self done =
 abbrev μ-loop : tie.MeasureT-loop
 μ-loop self₀ before durable count done₀ self done = count - done
 
-since-requires : tie.Need-since-requires Inv-loop μ-loop
-since-requires c κs = search needs
+unfenced-requires : tie.Need-unfenced-requires Inv-loop μ-loop
+unfenced-requires c κs = search needs
 
 cast-count : tie.Need-cast-count Inv-loop μ-loop
 cast-count c = search needs
@@ -61,7 +62,7 @@ loop-again : tie.Need-loop-again Inv-loop μ-loop
 unfolding persistFrom persistSlot
 loop-again c =
     let l = c .before .before .before in
-    let durable = l .before .before .before .before .before .args .t1 .tail .durable in
+    let durable = l .before .before .before .before .args .t1 .tail .durable in
     let slot : c .before .slot-after .result ≡ slotOf (durable .0 + 1 + l .loop .done) =
     omega (arith, c .before .slot-after .ensures) in
     (search needs, rw (slot, l .loop .inv .1, add-one (l .loop .done)))
@@ -73,9 +74,9 @@ returns : tie.Need-returns Inv-loop μ-loop
 unfolding fenceLogOf
 returns c =
     let l = c .before .before in
-    let a = l .before .before .before .before .before .args .t1 in
-    let all : l .loop .done ≡ a .tail .flushed .0 - a .tail .durable .0 = omega arith in
-    let persisted = persistFrom (a .cached) (a .persisted) (a .tail .durable .0 + 1) (a .tail .flushed .0 - a .tail .durable .0) in
+    let a = l .before .before .before .before .args .t1 in
+    let all : l .loop .done ≡ unfenced (a .tail) = omega arith in
+    let persisted = persistFrom (a .cached) (a .persisted) (a .tail .durable .0 + 1) (unfenced (a .tail)) in
     rw (l .loop .inv .1, all) (ap (withTail (withPersisted a persisted)) (c .fenced .ensures))
 
 pub fence-spec : {M : Type 1} → statement M
@@ -84,7 +85,7 @@ fence-spec =
     (tie.spec
     Inv-loop
     μ-loop
-    since-requires
+    unfenced-requires
     cast-count
     loop-holds
     add-slot-after

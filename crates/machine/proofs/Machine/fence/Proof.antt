@@ -5,7 +5,7 @@ use native.Mathlib.Omega.{arith}
 use borrow.Author.Needs.{needs}
 use Rattle.sizes.specs.Sizes.{threadCount}
 use Rattle.answer.specs.Answer.{numberOf}
-use Rattle.kinds.proofs.Inputs.{accepted-zero, accepted-thread}
+use Rattle.kinds.proofs.Inputs.{accepted-thread}
 use Rattle.machine.specs.Effects.{effect, fenceEffect}
 use Rattle.machine.proofs.Inputs.{input-refused}
 use Rattle.machine.proofs.PartSteps.{Accepts, fence-step}
@@ -31,6 +31,9 @@ mul-log c = omega (arith, thread-in (c .before))
 element-copy-out-log : tie.Need-element-copy-out-log
 element-copy-out-log c = omega (arith, thread-in (c .before))
 
+carried-requires : tie.Need-carried-requires
+carried-requires c κs = search needs
+
 fence-requires : tie.Need-fence-requires
 fence-requires c κs = search needs
 
@@ -38,22 +41,17 @@ fence-requires-2 : tie.Need-fence-requires-2
 fence-requires-2 c κs = search needs
 
 mul-durable : tie.Need-mul-durable
-mul-durable c = omega (arith, thread-in (c .before .before .before .before))
+mul-durable c = omega (arith, thread-in (c .before .before .before .before .before .before))
 
 element-set-from-durable : tie.Need-element-set-from-durable
-element-set-from-durable c = omega (arith, thread-in (c .before .before .before .before))
+element-set-from-durable c = omega (arith, thread-in (c .before .before .before .before .before .before))
 
 returns : tie.Need-returns
 unfolding effect fenceEffect
 returns c =
-    let a = c .before .before .before .before .before .before .before .args in
-    rw (
-      c .before .fence .ensures,
-      c .fence2 .ensures,
-      c .before .before .before .before .before .before .input-answer .ensures ∙
-          accepted-zero (a .thread) 0 0 9 (accepted (c .before .before .before .before)),
-    )
-    (fence-step (a .t1) (a .thread) 0 (accepted (c .before .before .before .before)))
+    let a = c .before .before .before .before .before .before .before .before .before .args in
+    rw (c .before .before .carried .ensures, c .before .fence .ensures, c .fence2 .ensures)
+    (fence-step (a .t1) (a .thread) 0 (accepted (c .before .before .before .before .before .before)))
 
 -- a FENCE whose input is refused answers that refusal and leaves the machine as it was
 returns-2 : tie.Need-returns-2
@@ -71,6 +69,7 @@ fence-spec =
     number-requires
     mul-log
     element-copy-out-log
+    carried-requires
     fence-requires
     fence-requires-2
     mul-durable
