@@ -9,6 +9,7 @@ use answer::Answer;
 use append::append_to;
 use ring::Lsn;
 use ring::has_slot;
+use ring::next_slot;
 use ring::slot_after;
 use sizes::SLOTS;
 use sizes::THREADS;
@@ -145,11 +146,11 @@ impl Log {
         ensures { λ r. ⌜ r ≡ fenceLogOf self ⌝ }
     {
         let before = self.tail;
-        let durable = before.durable;
         let count = before.unfenced() as usize;
+        let mut slot = slot_after(before.durable, 0);
         let mut done = 0;
         while done < count {
-            let slot = slot_after(durable, done + 1);
+            slot = next_slot(slot as u8);
             let entry = self.cached[slot];
             self.persisted[slot] = entry;
             done += 1;

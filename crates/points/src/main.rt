@@ -1,4 +1,5 @@
-// Runs document 01's corner points P1 to P11 on the code, each under that document's words, and says whether it gives what they ask.
+// Runs document 01's corner points P1 to P11 on the code, each under that document's words, and says whether it gives what they ask; and
+// prints the slot after each slot.
 ghost use mathlib.Core.Path.{_≡_};
 ghost use lib.ListN.{length};
 
@@ -16,6 +17,7 @@ use kinds::PRUNE;
 use kinds::RELEASE;
 use kinds::STORE;
 use sizes::CELLS;
+use sizes::SLOTS;
 
 // What no cell holds: a buffer for recovered cells is lent full of it.
 const LENT: u64 = 99;
@@ -274,7 +276,19 @@ fn report(point: &[u8], agrees: bool) {
     }
 }
 
-// Runs the points in document 01's order.
+// Document 02 "for each slot 0 to 63 the slot of the rank after, so 0 after 63", in a line.
+fn print_slots_after() {
+    io::write_all(1, b"slots after 0 to 63:");
+    let mut slot: u8 = 0;
+    while (slot as usize) < SLOTS {
+        io::write_all(1, b" ");
+        io::print_decimal(1, ring::next_slot(slot) as u64);
+        slot += 1;
+    }
+    io::write_all(1, b"\n");
+}
+
+// Runs the points in document 01's order, and then the slots.
 fn main() {
     report(b"P1", point_1());
     report(b"P2", point_2());
@@ -287,4 +301,5 @@ fn main() {
     report(b"P9", point_9());
     report(b"P10", point_10());
     report(b"P11", point_11());
+    print_slots_after();
 }

@@ -18,6 +18,6 @@ lsn number = record { 0 = number }
 abbrev pub slotOf : ℕ → ℕ
 slotOf number = number % slotCount
 
--- the slot of the LSN after the one in this slot: 0 after 63
+-- document 02: "for each slot 0 to 63 the slot of the rank after, so 0 after 63"
 abbrev pub nextSlotOf : ℕ → ℕ
 nextSlotOf slot = slotOf (slot + 1)

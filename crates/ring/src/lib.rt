@@ -13,8 +13,7 @@ pub struct Lsn(pub u32);
 pub fn next_slot(slot: u8) -> usize
     ensures { λ r. ⌜ r ≡ nextSlotOf slot ⌝ }
 {
-    let here = slot as usize % SLOTS;
-    if here < SLOTS - 1 { here + 1 } else { 0 }
+    (slot as usize + 1) % SLOTS
 }
 
 // The slot of the LSN that is so many after this one.

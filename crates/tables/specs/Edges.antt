@@ -1,6 +1,6 @@
--- Document 01's numbers, bounds and orders of tests, with LOG and FENCE as document 02 has them, as a second table beside that of the P
--- points: each row stands under the words that it is read from. Where steps get to an edge only after very many, or never, a row begins
--- at a machine that is written down; images that no machine makes are written down too.
+-- Document 01's numbers, bounds and orders of tests, with LOG, FENCE and the next slot as document 02 has them, as a second table beside
+-- that of the P points: each row stands under the words that it is read from. Where steps get to an edge only after very many, or never,
+-- a row begins at a machine that is written down; images that no machine makes are written down too.
 use Prim.Native.Nat.{ℕ, _+_, _-_}
 use mathlib.Core.Path.{_≡_}
 use mathlib.Core.Bool.{cond}
@@ -12,7 +12,7 @@ use Rattle.answer.specs.declared.Answer.the-variants.{NoSuchKind, NoSuchThread,
 use Rattle.answer.specs.declared.Answer.the-variants.{Race, NotLogged, EntryNotDurable, LockHeld, LockNotHeld, NotReleasing}
 use Rattle.answer.specs.declared.Answer.the-variants.{NothingToPrune, EarlierReleaseNotPruned, CellNotDurable, NoLiveEntry, Unreadable}
 use Rattle.answer.specs.declared.Answer.the-variants.{WrongLength, BadHead, BadEntry, Cyclic}
-use Rattle.ring.specs.Ring.{lsn}
+use Rattle.ring.specs.Ring.{lsn, nextSlotOf}
 use Rattle.tail.specs.declared.Releasing.the-variants.{Nothing, Lock}
 use Rattle.log.specs.Entries.{zeros, wordsOf}
 use Rattle.log.specs.Stretch.{stretchOf}
@@ -273,7 +273,9 @@ roomRows =
     (given (fromRank 0 999999) (LOG 0 5 ∷ LOG 0 6 ∷ LOG 0 7 ∷ LOG 1 8 ∷ []) gives 999999 ∷ 1000000 ∷ 0 ∷ 1 ∷ []) ∷
     -- "A released region of 3 entries and 61 LOGs: the next is 5. PRUNE, then three are accepted and the fourth is 5."
     (answered numbered (released7 ++ tab 62 (λ cell. LOG 3 cell) ++ (PRUNE 3 ∷ []) ++ tab 4 (λ more. LOG 3 (more + 61))) gives
-    replicate 69 0 ++ (5 ∷ 0 ∷ 0 ∷ 0 ∷ 0 ∷ 5 ∷ [])) ∷ []
+    replicate 69 0 ++ (5 ∷ 0 ∷ 0 ∷ 0 ∷ 0 ∷ 5 ∷ [])) ∷
+    -- document 02: "for each slot 0 to 63 the slot of the rank after, so 0 after 63"
+    (tab 64 nextSlotOf gives tab 63 (λ slot. slot + 1) ++ (0 ∷ [])) ∷ []
 
 -- ---- logging a cell again
 

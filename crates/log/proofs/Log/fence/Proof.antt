@@ -1,28 +1,24 @@
--- `log::Log::fence` meets its contract. The loop's invariant: the entries of `done` LSNs after the last durable one are persisted.
+-- `log::Log::fence` meets its contract. The loop's invariant: the entries of `done` LSNs after the last durable one are persisted, and
+-- `slot` is that of the last of these LSNs, or of the durable one.
 use Prim.Native.Nat.{_+_, _-_, _≤_}
 use mathlib.Core.Path.{_≡_, refl, ap}
-use mathlib.Core.List.{List}
 use native.Mathlib.Numerals.{add-one}
 use native.Mathlib.Omega.{arith}
 use borrow.Author.Needs.{needs}
 use Rattle.ring.specs.Ring.{slotOf}
 use Rattle.tail.specs.Tail.{unfenced}
 use Rattle.log.specs.Entries.{withTail, persistSlot, persistFrom, fenceLogOf}
-use Rattle.log.specs.declared.Entry.{Entry}
-use Rattle.log.specs.declared.Log.{Log}
 use Rattle.log.proofs.Log.fence.Statement.{statement}
 use Rattle.log.proofs.Log.fence.Tie as tie
 
--- the log with other persisted slots
-abbrev withPersisted : Log → List Entry → Log
-withPersisted log slots = record { cached = log .cached; persisted = slots; head = log .head; tail = log .tail }
-
 abbrev Inv-loop : tie.InvT-loop
-Inv-loop self₀ before durable count done₀ self done =
-    (done ≤ count) × (self ≡ withPersisted self₀ (persistFrom (self₀ .cached) (self₀ .persisted) (durable .0 + 1) done))
+Inv-loop self₀ before count slot₀ done₀ self slot done =
+    let persisted = persistFrom (self₀ .cached) (self₀ .persisted) (before .durable .0 + 1) done in
+    (done ≤ count) × (slot ≡ slotOf (before .durable .0 + done))
+    × (self ≡ record { cached = self₀ .cached; persisted = persisted; head = self₀ .head; tail = self₀ .tail })
 
 abbrev μ-loop : tie.MeasureT-loop
-μ-loop self₀ before durable count done₀ self done = count - done
+μ-loop self₀ before count slot₀ done₀ self slot done = count - done
 
 unfenced-requires : tie.Need-unfenced-requires Inv-loop μ-loop
 unfenced-requires c κs = search needs
@@ -30,15 +26,18 @@ unfenced-requires c κs = search needs
 cast-count : tie.Need-cast-count Inv-loop μ-loop
 cast-count c = search needs
 
-loop-holds : tie.Need-loop-holds Inv-loop μ-loop
-unfolding persistFrom
-loop-holds c = (search needs, refl)
-
-add-slot-after : tie.Need-add-slot-after Inv-loop μ-loop
-add-slot-after c = search needs
-
 slot-after-requires : tie.Need-slot-after-requires Inv-loop μ-loop
 slot-after-requires c κs = search needs
+
+loop-holds : tie.Need-loop-holds Inv-loop μ-loop
+unfolding persistFrom
+loop-holds c = (search needs, omega (arith, c .slot-after .ensures), refl)
+
+cast-next-slot : tie.Need-cast-next-slot Inv-loop μ-loop
+cast-next-slot c = search needs
+
+next-slot-requires : tie.Need-next-slot-requires Inv-loop μ-loop
+next-slot-requires c κs = search needs
 
 mul-entry : tie.Need-mul-entry Inv-loop μ-loop
 mul-entry c = search needs
@@ -62,10 +61,10 @@ loop-again : tie.Need-loop-again Inv-loop μ-loop
 unfolding persistFrom persistSlot
 loop-again c =
     let l = c .before .before .before in
-    let durable = l .before .before .before .before .args .t1 .tail .durable in
-    let slot : c .before .slot-after .result ≡ slotOf (durable .0 + 1 + l .loop .done) =
-    omega (arith, c .before .slot-after .ensures) in
-    (search needs, rw (slot, l .loop .inv .1, add-one (l .loop .done)))
+    let first = l .before .before .before .before .args .t1 .tail .durable .0 + 1 in
+    let slot : c .before .next-slot .result ≡ slotOf (first + l .loop .done) =
+    omega (arith, l .loop .inv .1, c .before .next-slot .ensures) in
+    (search needs, omega (arith, slot), rw (slot, l .loop .inv .2, add-one (l .loop .done)))
 
 fenced-requires : tie.Need-fenced-requires Inv-loop μ-loop
 fenced-requires c κs = search needs
@@ -76,8 +75,7 @@ returns c =
     let l = c .before .before in
     let a = l .before .before .before .before .args .t1 in
     let all : l .loop .done ≡ unfenced (a .tail) = omega arith in
-    let persisted = persistFrom (a .cached) (a .persisted) (a .tail .durable .0 + 1) (unfenced (a .tail)) in
-    rw (l .loop .inv .1, all) (ap (withTail (withPersisted a persisted)) (c .fenced .ensures))
+    rw (l .loop .inv .2, all) (ap (withTail (fenceLogOf a)) (c .fenced .ensures))
 
 pub fence-spec : {M : Type 1} → statement M
 fence-spec =
@@ -87,9 +85,10 @@ fence-spec =
     μ-loop
     unfenced-requires
     cast-count
-    loop-holds
-    add-slot-after
     slot-after-requires
+    loop-holds
+    cast-next-slot
+    next-slot-requires
     mul-entry
     element-copy-out-entry
     mul-entry-2
