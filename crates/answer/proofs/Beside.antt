@@ -5,8 +5,8 @@ use mathlib.Core.Bool.{false, true≢false}
 use mathlib.Core.Logic.{_⊎_, inl, inr, ⊎-elim}
 use Rattle.answer.specs.Answer.{valueOf, isAccepted}
 use Rattle.answer.specs.declared.Answer.{Answer}
-use Rattle.answer.specs.declared.Answer.the-variants.{Accepted, NoSuchKind, NoSuchThread, NoSuchPlace, UnusedField, LogFull}
-use Rattle.answer.specs.declared.Answer.the-variants.{LsnsUsedUp, Releasing, Race, NotLogged, EntryNotDurable}
+use Rattle.answer.specs.declared.Answer.the-variants.{Accepted, NoSuchKind, NoSuchThread, NoSuchPlace, UnusedField, NoSuchWordCount}
+use Rattle.answer.specs.declared.Answer.the-variants.{LogFull, LsnsUsedUp, Releasing, Race, NotLogged, EntryNotDurable}
 use Rattle.answer.specs.declared.Answer.the-variants.{LockHeld, LockNotHeld, NotReleasing, NothingToPrune, EarlierReleaseNotPruned}
 use Rattle.answer.specs.declared.Answer.the-variants.{CellNotDurable, NoLiveEntry, Unreadable, WrongLength, BadHead, BadEntry, Cyclic}
 
@@ -34,6 +34,7 @@ accepted-or-zero NothingToPrune = inr refl
 accepted-or-zero EarlierReleaseNotPruned = inr refl
 accepted-or-zero CellNotDurable = inr refl
 accepted-or-zero NoLiveEntry = inr refl
+accepted-or-zero NoSuchWordCount = inr refl
 accepted-or-zero Unreadable = inr refl
 accepted-or-zero WrongLength = inr refl
 accepted-or-zero BadHead = inr refl

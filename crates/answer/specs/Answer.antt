@@ -3,8 +3,8 @@ use Prim.Native.Nat.{ℕ}
 use mathlib.Core.Bool.{Bool}
 use lib.Dec.{eqb}
 use Rattle.answer.specs.declared.Answer.{Answer}
-use Rattle.answer.specs.declared.Answer.the-variants.{Accepted, NoSuchKind, NoSuchThread, NoSuchPlace, UnusedField, LogFull}
-use Rattle.answer.specs.declared.Answer.the-variants.{LsnsUsedUp, Releasing, Race, NotLogged, EntryNotDurable}
+use Rattle.answer.specs.declared.Answer.the-variants.{Accepted, NoSuchKind, NoSuchThread, NoSuchPlace, UnusedField, NoSuchWordCount}
+use Rattle.answer.specs.declared.Answer.the-variants.{LogFull, LsnsUsedUp, Releasing, Race, NotLogged, EntryNotDurable}
 use Rattle.answer.specs.declared.Answer.the-variants.{LockHeld, LockNotHeld, NotReleasing, NothingToPrune, EarlierReleaseNotPruned}
 use Rattle.answer.specs.declared.Answer.the-variants.{CellNotDurable, NoLiveEntry, Unreadable, WrongLength, BadHead, BadEntry, Cyclic}
 
@@ -28,6 +28,7 @@ numberOf NothingToPrune = 15
 numberOf EarlierReleaseNotPruned = 16
 numberOf CellNotDurable = 17
 numberOf NoLiveEntry = 18
+numberOf NoSuchWordCount = 19
 numberOf Unreadable = 20
 numberOf WrongLength = 21
 numberOf BadHead = 22
@@ -54,6 +55,7 @@ valueOf NothingToPrune = 0
 valueOf EarlierReleaseNotPruned = 0
 valueOf CellNotDurable = 0
 valueOf NoLiveEntry = 0
+valueOf NoSuchWordCount = 0
 valueOf Unreadable = 0
 valueOf WrongLength = 0
 valueOf BadHead = 0

@@ -10,6 +10,7 @@ pub enum Answer {
     NoSuchThread,
     NoSuchPlace,
     UnusedField,
+    NoSuchWordCount,
     // Refused because of the state.
     LogFull,
     LsnsUsedUp,
@@ -55,6 +56,7 @@ pub fn number(answer: Answer) -> u64
         Answer::EarlierReleaseNotPruned => 16,
         Answer::CellNotDurable => 17,
         Answer::NoLiveEntry => 18,
+        Answer::NoSuchWordCount => 19,
         Answer::Unreadable => 20,
         Answer::WrongLength => 21,
         Answer::BadHead => 22,

@@ -10,11 +10,12 @@ use lib.Dec.{eqb}
 use borrow.Author.Tests.{ltb-true, eqb-true, not-false}
 use Rattle.sizes.specs.Sizes.{threadCount}
 use Rattle.answer.specs.Answer.{isAccepted}
-use Rattle.answer.proofs.RefusalLaws.{AllFail}
+use Rattle.answer.proofs.RefusalLaws.{AllFail, allFail-right}
 use Rattle.machine.specs.Effects.{loadEffect, firstLogEffect, storeEffect, acquireEffect, logReleaseEffect, releaseEffect, flushEffect}
-use Rattle.machine.specs.Effects.{flushLogEffect, fenceEffect, pruneEffect, evictEffect, evictLogEffect, effect}
-use Rattle.kinds.specs.Kinds.{Kind, LOAD, LOG, STORE, ACQUIRE, LOGREL, RELEASE, FLUSH, FLUSHLOG, FENCE, PRUNE, EVICT, EVICTLOG, kindOf}
-use Rattle.kinds.specs.Kinds.{fieldsOf, isOver, inputTests}
+use Rattle.machine.specs.Effects.{flushLogEffect, fenceEffect, pruneEffect, evictEffect, evictLogEffect, evictCellEffect, effect}
+use Rattle.machine.specs.Effects.{evictWordsEffect}
+use Rattle.kinds.specs.Kinds.{Kind, LOAD, LOG, STORE, ACQUIRE, LOGREL, RELEASE, FLUSH, FLUSHLOG, FENCE, PRUNE, EVICT, EVICTLOG}
+use Rattle.kinds.specs.Kinds.{EVICTCELL, EVICTWORDS, kindOf, fieldsOf, isOver, countTests, inputTests}
 use Rattle.machine.specs.Refusals.{stateTests}
 use Rattle.machine.specs.Runs.{Step, stepWith, after}
 use Rattle.machine.specs.declared.Machine.{Machine}
@@ -23,7 +24,7 @@ use Rattle.machine.proofs.StepLaws.{testsOf, step-cases}
 use Rattle.atomicity.specs.History.{Fed, fedWith, historyOf}
 use Rattle.atomicity.proofs.Ordered.{andThen}
 
--- document 01's number of a kind
+-- the number of a kind
 abbrev pub kindNumber : Kind → ℕ
 kindNumber LOAD = 1
 kindNumber LOG = 2
@@ -37,6 +38,8 @@ kindNumber FENCE = 9
 kindNumber PRUNE = 10
 kindNumber EVICT = 11
 kindNumber EVICTLOG = 12
+kindNumber EVICTCELL = 13
+kindNumber EVICTWORDS = 14
 
 -- a number that has a kind is that kind's
 pub kind-number : (number : ℕ) (kind : Kind) → kindOf number ≡ some kind → number ≡ kindNumber kind
@@ -48,7 +51,8 @@ kind-number number kind isKind =
     (pick RELEASE
     (pick FLUSH (pick FLUSHLOG
     (pick FENCE (pick PRUNE
-    (pick EVICT (pick EVICTLOG (λ isNone. let never : _≡_ {A = ℕ} 0 1 = cc in absurd (omega arith))))))))))))) isKind
+    (pick EVICT (pick EVICTLOG
+    (pick EVICTCELL (pick EVICTWORDS (λ isNone. let never : _≡_ {A = ℕ} 0 1 = cc in absurd (omega arith))))))))))))))) isKind
   where
     pick : (found : Kind) {rest : Option Kind} → (rest ≡ some kind → number ≡ kindNumber kind) →
         cond (eqb number (kindNumber found)) (some found) rest ≡ some kind → number ≡ kindNumber kind
@@ -75,13 +79,13 @@ module _ (machine : Machine) (kind : Kind) (thread place value : ℕ) (fails : A
 
   pub state-fails : AllFail (stateTests machine kind thread place)
   unfolding inputTests
-  state-fails = fails .1 .1 .1
+  state-fails = allFail-right (countTests (fieldsOf kind .value) value) (stateTests machine kind thread place) (fails .1 .1 .1)
 
 -- an effect's answer is acceptance
 pub effect-accepted : (machine : Machine) (kind : Kind) (thread place value : ℕ) →
     isAccepted (effect machine kind thread place value .answer) ≡ true
 unfolding effect loadEffect firstLogEffect storeEffect acquireEffect logReleaseEffect releaseEffect flushEffect
-    flushLogEffect fenceEffect pruneEffect evictEffect evictLogEffect
+    flushLogEffect fenceEffect pruneEffect evictEffect evictLogEffect evictCellEffect evictWordsEffect
 effect-accepted machine LOAD thread place value = refl
 effect-accepted machine LOG thread place value =
     log-cases (λ stepped. isAccepted (stepped .answer) ≡ true) machine thread place (λ isNowhere. refl) (λ number isAt. refl)
@@ -95,6 +99,8 @@ effect-accepted machine FENCE thread place value = refl
 effect-accepted machine PRUNE thread place value = refl
 effect-accepted machine EVICT thread place value = refl
 effect-accepted machine EVICTLOG thread place value = refl
+effect-accepted machine EVICTCELL thread place value = refl
+effect-accepted machine EVICTWORDS thread place value = refl
 
 -- what is kept by each refused step and by each effect whose tests all failed
 module _ (P : Machine → List Fed → Type 0)

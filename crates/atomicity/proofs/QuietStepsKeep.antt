@@ -1,5 +1,5 @@
 -- The steps that make no entry and move no head keep what holds of a machine and its history: refused steps, LOAD, STORE, FLUSH, FLUSHLOG,
--- FENCE, EVICT, EVICTLOG, and LOG of a cell that has an entry already.
+-- FENCE, the four evictions, and LOG of a cell that has an entry already.
 use Prim.Native.Nat.{ℕ, suc, _-_, _≤_, _<_}
 use native.Mathlib.Decide.{ℕ-discrete}
 use native.Mathlib.Omega.{arith}
@@ -10,12 +10,12 @@ use mathlib.Core.Logic.{_⊎_, inl, inr, ⊎-elim, by-cases, _≢_}
 use lib.ListN.{length, set}
 use lib.Seq.{getD-set-same, getD-set-other}
 use lib.Dec.{eqb}
-use Rattle.sizes.specs.Sizes.{threadCount}
+use Rattle.sizes.specs.Sizes.{threadCount, entryWords}
 use Rattle.answer.proofs.RefusalLaws.{AllFail}
-use Rattle.cache.specs.Cache.{cachedAt, persistedAt, lineOf, isPending, storeOf, flushOf, fenceOf, evictOf}
+use Rattle.cache.specs.Cache.{cachedAt, persistedAt, lineOf, isPending, storeOf, flushOf, fenceOf, evictOf, evictCellOf}
 use Rattle.cache.specs.declared.Cache.{Cache}
 use Rattle.cache.proofs.CacheLaws as CacheLaws
-use Rattle.log.specs.Entries.{flushLogOf, fenceLogOf, evictSlotOf}
+use Rattle.log.specs.Entries.{flushLogOf, fenceLogOf, evictWordsOf}
 use Rattle.ring.specs.Ring.{lsn}
 use Rattle.ring.specs.declared.Lsn.{Lsn}
 use Rattle.tail.specs.Tail.{flushedTail, fencedTail}
@@ -25,16 +25,17 @@ use Rattle.undo.specs.Regions.{loggedOf}
 use Rattle.undo.specs.declared.Event.the-variants.{Store, Release}
 use Rattle.undo.specs.declared.Found.the-variants.{At}
 use Rattle.log.specs.declared.Log.{Log}
-use Rattle.undo.proofs.UndoInvariant.{UndoHolds, flush-holds, fence-holds, evict-holds}
+use Rattle.undo.proofs.UndoInvariant.{UndoHolds, flush-holds, fence-holds, tear-holds}
 use Rattle.undo.proofs.LoggedLaws.{logged-at}
 use Rattle.accesses.specs.Accesses.{loadedOf}
 use Rattle.machine.specs.Effects.{loadEffect, storeEffect, flushEffect, flushLogEffect, fenceEffect, evictEffect, evictLogEffect, effect}
+use Rattle.machine.specs.Effects.{evictCellEffect, evictWordsEffect}
 use Rattle.machine.specs.Holds.{withLog, withCache, withAccesses}
 use Rattle.accesses.specs.declared.Accesses.{Accesses}
-use Rattle.kinds.specs.Kinds.{LOAD, LOG, STORE, FLUSH, FLUSHLOG, FENCE, EVICT, EVICTLOG}
+use Rattle.kinds.specs.Kinds.{LOAD, LOG, STORE, FLUSH, FLUSHLOG, FENCE, EVICT, EVICTLOG, EVICTCELL, EVICTWORDS}
 use Rattle.machine.specs.declared.Machine.{Machine}
 use Rattle.machine.proofs.AcceptedMeans.{load-asked, log-asked, store-asked, flush-asked, flush-log-asked, fence-asked}
-use Rattle.machine.proofs.AcceptedMeans.{evict-asked, evict-log-asked}
+use Rattle.machine.proofs.AcceptedMeans.{SlotAsked, evict-asked, evict-log-asked, evict-cell-asked, evict-words-asked}
 use Rattle.machine.proofs.Sizes.{Sized, effect-sized}
 use Rattle.machine.proofs.StepLaws.{testsOf}
 use Rattle.atomicity.specs.History.{Fed}
@@ -207,30 +208,64 @@ module _ {start : Beginning} {machine : Machine} {history : List Fed} {ghost : G
     kept-or-same true cached persisted is = inl is
     kept-or-same false cached persisted is = inr is
 
+    -- cells are evicted: the cached contents of some are persisted, and nothing else changes
+    cells-evicted : (kind : ℕ) → Aside kind → thread < threadCount → (cache : Cache) → Sized (withCache machine cache) →
+        CacheLaws.Sized cache → CacheLaws.DurableKept cache →
+        ((cell : ℕ) → cachedAt cache cell ≡ cachedAt (machine .cache) cell) → (isEvicted : ℕ → Bool) →
+        ((cell : ℕ) → persistedAt cache cell ≡
+        cond (isEvicted cell) (cachedAt (machine .cache) cell) (persistedAt (machine .cache) cell)) →
+        MachineInvariant start (withCache machine cache)
+        (andThen history (record { kind = kind; thread = thread; place = place; value = value; accepted = true })) ghost
+    cells-evicted kind aside inThread cache sized cacheSized durableKept cached isEvicted persisted =
+        machine-aside
+        cache
+        (machine .accesses)
+        _
+        ghost
+        refl
+        refl
+        refl
+        (quiet-step kind thread place value aside inThread)
+        sized
+        cacheSized
+        durableKept
+        (cache-cells cache cached
+        (λ cell. kept-or-same (isEvicted cell) (cachedAt (machine .cache) cell) (persistedAt (machine .cache) cell) (persisted cell))
+        machine (same-view (entriesOf start machine ghost) (length history)) (λ other. refl))
+
     pub machine-evict : AllFail (testsOf machine EVICT thread place value) →
         MachineInvariant start (effect machine EVICT thread place value .machine)
         (andThen history (tookStep EVICT thread place value)) ghost
     unfolding effect evictEffect
     machine-evict fails =
-        machine-aside
+        cells-evicted
+        11
+        (omega arith)
+        (evict-asked machine thread place value fails .0)
         (evictOf (machine .cache) place)
-        (machine .accesses)
-        (tookStep EVICT thread place value)
-        ghost
-        refl
-        refl
-        refl
-        (quiet-step 11 thread place value (omega arith)
-        (evict-asked machine thread place value fails .0))
         (effect-sized machine (machineHolds .sized) EVICT thread place value fails)
         (CacheLaws.evictOf-sized (machine .cache) (machineHolds .cacheSized) place)
         (CacheLaws.evictOf-kept (machine .cache) (machineHolds .cacheSized) place (machineHolds .durableKept))
-        (cache-cells (evictOf (machine .cache) place)
         (CacheLaws.evictOf-cached (machine .cache) (machineHolds .cacheSized) place)
-        (λ cell. kept-or-same (eqb (lineOf cell) place) (cachedAt (machine .cache) cell)
-        (persistedAt (machine .cache) cell)
-        (CacheLaws.evictOf-persisted (machine .cache) (machineHolds .cacheSized) place cell))
-        machine (same-view (entriesOf start machine ghost) (length history)) (λ other. refl))
+        (λ cell. eqb (lineOf cell) place)
+        (CacheLaws.evictOf-persisted (machine .cache) (machineHolds .cacheSized) place)
+
+    pub machine-evict-cell : AllFail (testsOf machine EVICTCELL thread place value) →
+        MachineInvariant start (effect machine EVICTCELL thread place value .machine)
+        (andThen history (tookStep EVICTCELL thread place value)) ghost
+    unfolding effect evictCellEffect
+    machine-evict-cell fails =
+        cells-evicted
+        13
+        (omega arith)
+        (evict-cell-asked machine thread place value fails .0)
+        (evictCellOf (machine .cache) place)
+        (effect-sized machine (machineHolds .sized) EVICTCELL thread place value fails)
+        (CacheLaws.evictCellOf-sized (machine .cache) (machineHolds .cacheSized) place)
+        (CacheLaws.evictCellOf-kept (machine .cache) (machineHolds .cacheSized) place (machineHolds .durableKept))
+        (CacheLaws.evictCellOf-cached (machine .cache) (machineHolds .cacheSized) place)
+        (λ cell. eqb cell place)
+        (CacheLaws.evictCellOf-persisted (machine .cache) (machineHolds .cacheSized) place)
 
     -- a change of the thread's log that makes no entry, moves no head and leaves the lock being released
     module _ (log : Log) (inRange : thread < threadCount) (holds : UndoHolds log (ghost .event thread))
@@ -343,29 +378,46 @@ module _ {start : Beginning} {machine : Machine} {history : List Fed} {ghost : G
         (persistedAt (machine .cache) cell)
         (CacheLaws.fenceOf-persisted (machine .cache) (machineHolds .cacheSized) thread cell))
 
-    pub machine-evict-log : AllFail (testsOf machine EVICTLOG thread place value) →
-        MachineInvariant start (effect machine EVICTLOG thread place value .machine)
-        (andThen history (tookStep EVICTLOG thread place value)) ghost
-    unfolding effect evictLogEffect evictSlotOf
-    machine-evict-log fails =
-        let asked = evict-log-asked machine thread place value fails in
+    -- words of a live entry are evicted, however many, and nothing else changes
+    words-evicted : (kind count : ℕ) → Aside kind → SlotAsked machine thread place →
+        Sized (withLog machine thread (evictWordsOf (logAt (machine .logs) thread) place count)) →
+        MachineInvariant start (withLog machine thread (evictWordsOf (logAt (machine .logs) thread) place count))
+        (andThen history (record { kind = kind; thread = thread; place = place; value = value; accepted = true })) ghost
+    unfolding evictWordsOf
+    words-evicted kind count aside asked sized =
         let log = logAt (machine .logs) thread in
         quiet-log
-        (evictSlotOf log place)
+        (evictWordsOf log place count)
         (asked .inThread)
-        (evict-holds log (ghost .event thread) (machineHolds .logs thread (asked .inThread)) place (asked .isLive))
+        (tear-holds log (ghost .event thread) (machineHolds .logs thread (asked .inThread)) place count (asked .isLive))
         refl
         refl
         (omega arith)
         refl
         (machine .cache)
-        (tookStep EVICTLOG thread place value)
-        (quiet-step 12 thread place value (omega arith) (asked .inThread))
-        (effect-sized machine (machineHolds .sized) EVICTLOG thread place value fails)
+        _
+        (quiet-step kind thread place value aside (asked .inThread))
+        sized
         (machineHolds .cacheSized)
         (machineHolds .durableKept)
         (λ cell. refl)
         (λ cell. inr refl)
+
+    pub machine-evict-log : AllFail (testsOf machine EVICTLOG thread place value) →
+        MachineInvariant start (effect machine EVICTLOG thread place value .machine)
+        (andThen history (tookStep EVICTLOG thread place value)) ghost
+    unfolding effect evictLogEffect
+    machine-evict-log fails =
+        words-evicted 12 entryWords (omega arith) (evict-log-asked machine thread place value fails)
+        (effect-sized machine (machineHolds .sized) EVICTLOG thread place value fails)
+
+    pub machine-evict-words : AllFail (testsOf machine EVICTWORDS thread place value) →
+        MachineInvariant start (effect machine EVICTWORDS thread place value .machine)
+        (andThen history (tookStep EVICTWORDS thread place value)) ghost
+    unfolding effect evictWordsEffect
+    machine-evict-words fails =
+        words-evicted 14 value (omega arith) (evict-words-asked machine thread place value fails)
+        (effect-sized machine (machineHolds .sized) EVICTWORDS thread place value fails)
 
     -- the versions after a STORE: the newest of the cell has the value after it
     abbrev pub storedVersions : Ghost

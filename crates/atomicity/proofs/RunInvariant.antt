@@ -8,11 +8,11 @@ use borrow.Author.Tests.{eq-eqb}
 use mathlib.Core.List.{List, [], _∷_}
 use mathlib.Core.Logic.{by-cases}
 use mathlib.Core.Option.{Option, none, some}
-use lib.ListN.{length, take}
+use lib.ListN.{length, set, take}
 use lib.Seq.{take-append-le, take-append-seam}
-use Rattle.sizes.specs.Sizes.{threadCount}
+use Rattle.sizes.specs.Sizes.{threadCount, entryWords}
 use Rattle.answer.proofs.RefusalLaws.{AllFail}
-use Rattle.log.specs.Entries.{flushLogOf, fenceLogOf, evictSlotOf}
+use Rattle.log.specs.Entries.{flushLogOf, fenceLogOf, evictWordsOf}
 use Rattle.undo.specs.Events.{endReleaseOf}
 use Rattle.tail.specs.Tail.{flushedTail, fencedTail, releasedTail}
 use Rattle.undo.specs.Regions.{isRelease, loggedOf}
@@ -22,11 +22,12 @@ use Rattle.undo.specs.declared.Found.the-variants.{Nowhere, At}
 use Rattle.ring.specs.declared.Lsn.{Lsn}
 use Rattle.accesses.specs.Accesses.{loadedOf, loggedCellOf}
 use Rattle.machine.specs.Effects.{loadEffect, firstLogEffect, storeEffect, acquireEffect, logReleaseEffect, releaseEffect, flushEffect}
-use Rattle.machine.specs.Effects.{flushLogEffect, fenceEffect, evictEffect, evictLogEffect, effect}
+use Rattle.machine.specs.Effects.{flushLogEffect, fenceEffect, evictEffect, evictLogEffect, evictCellEffect, evictWordsEffect, effect}
 use Rattle.kinds.specs.Kinds.{Kind, LOAD, LOG, STORE, ACQUIRE, LOGREL, RELEASE, FLUSH, FLUSHLOG, FENCE, PRUNE, EVICT, EVICTLOG}
+use Rattle.kinds.specs.Kinds.{EVICTCELL, EVICTWORDS}
 use Rattle.machine.specs.declared.Machine.{Machine}
 use Rattle.machine.proofs.AcceptedMeans.{log-asked, acquire-asked, log-release-asked, release-asked, flush-log-asked, fence-asked}
-use Rattle.machine.proofs.AcceptedMeans.{evict-log-asked, store-asked, prune-asked}
+use Rattle.machine.proofs.AcceptedMeans.{evict-log-asked, evict-words-asked, store-asked, prune-asked}
 use Rattle.machine.proofs.LogCases.{log-cases}
 use Rattle.machine.proofs.StepLaws.{testsOf}
 use Rattle.reference.specs.Reference.{Book, emptyBook, openUnless, feed, feedAccepted, joins, openOf}
@@ -46,8 +47,9 @@ use Rattle.atomicity.proofs.StepsFollow.{effect-follows, refused-follow
 use Rattle.atomicity.proofs.LogViews.{logAt, same-view}
 use Rattle.atomicity.proofs.MachineInvariant.{Beginning, Ghost, MachineInvariant, entriesOf, contentsOf, last-kept}
 use Rattle.atomicity.proofs.QuietStepsKeep.{EntriesStay, log-stays, logs-stay, machine-refused, machine-load, machine-flush}
-use Rattle.atomicity.proofs.QuietStepsKeep.{machine-evict, machine-flush-log, machine-fence, machine-evict-log, stored-entry}
-use Rattle.atomicity.proofs.QuietStepsKeep.{stores-cell, storedVersions, machine-store, logged-entry, logged-now, machine-log-again}
+use Rattle.atomicity.proofs.QuietStepsKeep.{machine-evict, machine-evict-cell, machine-flush-log, machine-fence, machine-evict-log}
+use Rattle.atomicity.proofs.QuietStepsKeep.{machine-evict-words, stored-entry, stores-cell, storedVersions, machine-store}
+use Rattle.atomicity.proofs.QuietStepsKeep.{logged-entry, logged-now, machine-log-again}
 use Rattle.atomicity.proofs.AppendsKeep.{appends, acquireEntry, releaseEntry, storeEntry, ghostThen, machine-acquire}
 use Rattle.atomicity.proofs.AppendsKeep.{machine-log-release, log-appends, logs-cell, loggedVersions, machine-log}
 use Rattle.atomicity.proofs.ReleaseKeeps.{machine-release}
@@ -189,41 +191,38 @@ module _ {start : Beginning} {machine : Machine} {history : List Fed} (runHolds 
     inLogs : thread < threadCount → thread < length (machine .logs)
     inLogs inRange = rw (runHolds .machineHolds .sized .logs) inRange
 
+    -- a kind that leaves the logs alone, and that the reference model passes over
+    run-still : (kind : Kind) → AllFail (testsOf machine kind thread place value) →
+        MachineInvariant start (effect machine kind thread place value .machine)
+        (andThen history (tookStep kind thread place value)) ghost →
+        effect machine kind thread place value .machine .logs ≡ machine .logs →
+        feed book (kindNumber kind) thread place value true ≡ book → joins book (kindNumber kind) thread ≡ none →
+        RunInvariant start (effect machine kind thread place value .machine) (andThen history (tookStep kind thread place value))
+    run-still kind fails holds sameLogs passes joinsNone =
+        run-quiet
+        (effect machine kind thread place value .machine)
+        (tookStep kind thread place value)
+        holds
+        (follows-then kind thread place value fails)
+        (logs-stay start machine _ ghost (length history) sameLogs)
+        passes
+        (λ isAccepted. joinsNone)
+
     run-load : Kept LOAD
     unfolding effect loadEffect loadedOf feed feedAccepted joins
-    run-load fails =
-        run-quiet
-        (effect machine LOAD thread place value .machine)
-        (tookStep LOAD thread place value)
-        (machine-load (runHolds .machineHolds) thread place value fails)
-        (follows-then LOAD thread place value fails)
-        (logs-stay start machine _ ghost (length history) refl)
-        refl
-        (λ isAccepted. refl)
+    run-load fails = run-still LOAD fails (machine-load (runHolds .machineHolds) thread place value fails) refl refl refl
 
     run-flush : Kept FLUSH
     unfolding effect flushEffect feed feedAccepted joins
-    run-flush fails =
-        run-quiet
-        (effect machine FLUSH thread place value .machine)
-        (tookStep FLUSH thread place value)
-        (machine-flush (runHolds .machineHolds) thread place value fails)
-        (follows-then FLUSH thread place value fails)
-        (logs-stay start machine _ ghost (length history) refl)
-        refl
-        (λ isAccepted. refl)
+    run-flush fails = run-still FLUSH fails (machine-flush (runHolds .machineHolds) thread place value fails) refl refl refl
 
     run-evict : Kept EVICT
     unfolding effect evictEffect feed feedAccepted joins
-    run-evict fails =
-        run-quiet
-        (effect machine EVICT thread place value .machine)
-        (tookStep EVICT thread place value)
-        (machine-evict (runHolds .machineHolds) thread place value fails)
-        (follows-then EVICT thread place value fails)
-        (logs-stay start machine _ ghost (length history) refl)
-        refl
-        (λ isAccepted. refl)
+    run-evict fails = run-still EVICT fails (machine-evict (runHolds .machineHolds) thread place value fails) refl refl refl
+
+    run-evict-cell : Kept EVICTCELL
+    unfolding effect evictCellEffect feed feedAccepted joins
+    run-evict-cell fails = run-still EVICTCELL fails (machine-evict-cell (runHolds .machineHolds) thread place value fails) refl refl refl
 
     run-flush-log : Kept FLUSHLOG
     unfolding effect flushLogEffect flushLogOf flushedTail feed feedAccepted joins
@@ -252,18 +251,37 @@ module _ {start : Beginning} {machine : Machine} {history : List Fed} (runHolds 
         refl
         (λ isAccepted. refl)
 
-    run-evict-log : Kept EVICTLOG
-    unfolding effect evictLogEffect evictSlotOf feed feedAccepted joins
-    run-evict-log fails =
+    -- a kind that evicts words of an entry, and that the reference model passes over
+    run-words : (kind : Kind) (count : ℕ) → AllFail (testsOf machine kind thread place value) → thread < threadCount →
+        MachineInvariant start (effect machine kind thread place value .machine)
+        (andThen history (tookStep kind thread place value)) ghost →
+        effect machine kind thread place value .machine .logs ≡
+        set (machine .logs) thread (evictWordsOf (logAt (machine .logs) thread) place count) →
+        feed book (kindNumber kind) thread place value true ≡ book → joins book (kindNumber kind) thread ≡ none →
+        RunInvariant start (effect machine kind thread place value .machine) (andThen history (tookStep kind thread place value))
+    unfolding evictWordsOf
+    run-words kind count fails inRange holds isSet passes joinsNone =
         run-quiet
-        (effect machine EVICTLOG thread place value .machine)
-        (tookStep EVICTLOG thread place value)
-        (machine-evict-log (runHolds .machineHolds) thread place value fails)
-        (follows-then EVICTLOG thread place value fails)
-        (log-stays start machine _ ghost (length history) thread (evictSlotOf (logAt (machine .logs) thread) place) refl
-        (inLogs (evict-log-asked machine thread place value fails .inThread)) refl refl (omega arith))
-        refl
-        (λ isAccepted. refl)
+        (effect machine kind thread place value .machine)
+        (tookStep kind thread place value)
+        holds
+        (follows-then kind thread place value fails)
+        (log-stays start machine _ ghost (length history) thread (evictWordsOf (logAt (machine .logs) thread) place count) isSet
+        (inLogs inRange) refl refl (omega arith))
+        passes
+        (λ isAccepted. joinsNone)
+
+    run-evict-log : Kept EVICTLOG
+    unfolding effect evictLogEffect feed feedAccepted joins
+    run-evict-log fails =
+        run-words EVICTLOG entryWords fails (evict-log-asked machine thread place value fails .inThread)
+        (machine-evict-log (runHolds .machineHolds) thread place value fails) refl refl refl
+
+    run-evict-words : Kept EVICTWORDS
+    unfolding effect evictWordsEffect feed feedAccepted joins
+    run-evict-words fails =
+        run-words EVICTWORDS value fails (evict-words-asked machine thread place value fails .inThread)
+        (machine-evict-words (runHolds .machineHolds) thread place value fails) refl refl refl
 
     run-release : Kept RELEASE
     unfolding effect releaseEffect endReleaseOf releasedTail feed feedAccepted joins
@@ -503,3 +521,5 @@ module _ {start : Beginning} {machine : Machine} {history : List Fed} (runHolds 
   run-effect PRUNE thread place value fails = run-prune thread place value fails
   run-effect EVICT thread place value fails = run-evict thread place value fails
   run-effect EVICTLOG thread place value fails = run-evict-log thread place value fails
+  run-effect EVICTCELL thread place value fails = run-evict-cell thread place value fails
+  run-effect EVICTWORDS thread place value fails = run-evict-words thread place value fails

@@ -7,13 +7,13 @@ use mathlib.Core.Logic.{⊎-elim, _≢_}
 use native.Mathlib.Omega.{arith}
 use lib.ListN.{length, set, replicate}
 use borrow.Author.Tests.{ltb-true, not-false}
-use Rattle.sizes.specs.Sizes.{threadCount, lockCount}
+use Rattle.sizes.specs.Sizes.{threadCount, lockCount, entryWords}
 use Rattle.answer.proofs.RefusalLaws.{AllFail}
 use Rattle.cache.specs.Cache.{cellCount, cachedAt}
 use Rattle.tail.specs.Tail.{flushedTail, fencedTail, releasedTail}
 use Rattle.append.specs.Append.{grownTail}
 use Rattle.undo.specs.Events.{syncCount, liveEvent, enterOf, endReleaseOf}
-use Rattle.log.specs.Entries.{flushLogOf, fenceLogOf, evictSlotOf, dropOf, appendOf}
+use Rattle.log.specs.Entries.{flushLogOf, fenceLogOf, evictWordsOf, dropOf, appendOf}
 use Rattle.undo.specs.Regions.{oldestRegion, loggedOf}
 use Rattle.undo.specs.declared.Event.{Event}
 use Rattle.undo.specs.declared.Event.the-variants.{Empty, Store, Acquire, Release}
@@ -24,7 +24,9 @@ use Rattle.clocks.specs.Clocks.{noClock, startClocks}
 use Rattle.accesses.specs.Accesses.{loggedCellOf}
 use Rattle.machine.specs.Effects.{loadEffect, firstLogEffect, storeEffect, acquireEffect, logReleaseEffect, releaseEffect, flushEffect}
 use Rattle.machine.specs.Effects.{flushLogEffect, fenceEffect, pruneEffect, countPruned, evictEffect, evictLogEffect, effect}
+use Rattle.machine.specs.Effects.{evictCellEffect, evictWordsEffect}
 use Rattle.kinds.specs.Kinds.{Kind, LOAD, LOG, STORE, ACQUIRE, LOGREL, RELEASE, FLUSH, FLUSHLOG, FENCE, PRUNE, EVICT, EVICTLOG}
+use Rattle.kinds.specs.Kinds.{EVICTCELL, EVICTWORDS}
 use Rattle.machine.specs.Holds.{logOf, lockOf, clockOf, withLog}
 use Rattle.machine.specs.Refusals.{acquireTests, logReleaseTests, stateTests}
 use Rattle.locks.specs.LockSteps.{releaseTests}
@@ -175,6 +177,10 @@ module _ (machine : Machine) (history : List Fed) (follows : Follows machine his
     unfolding effect evictEffect
     evict-kept = plain-kept EVICT (omega arith) refl refl refl (λ isThread fails. follows .held)
 
+    evictCell-kept : Kept EVICTCELL
+    unfolding effect evictCellEffect
+    evictCell-kept = plain-kept EVICTCELL (omega arith) refl refl refl (λ isThread fails. follows .held)
+
     flushLog-kept : Kept FLUSHLOG
     unfolding effect flushLogEffect flushLogOf flushedTail
     flushLog-kept =
@@ -187,10 +193,16 @@ module _ (machine : Machine) (history : List Fed) (follows : Follows machine his
         plain-kept FENCE (omega arith) refl refl refl (λ isThread fails. held-with thread isThread (fenceLogOf (logOf machine thread)) refl)
 
     evictLog-kept : Kept EVICTLOG
-    unfolding effect evictLogEffect evictSlotOf
+    unfolding effect evictLogEffect evictWordsOf
     evictLog-kept =
         plain-kept EVICTLOG (omega arith) refl refl refl
-        (λ isThread fails. held-with thread isThread (evictSlotOf (logOf machine thread) place) refl)
+        (λ isThread fails. held-with thread isThread (evictWordsOf (logOf machine thread) place entryWords) refl)
+
+    evictWords-kept : Kept EVICTWORDS
+    unfolding effect evictWordsEffect evictWordsOf
+    evictWords-kept =
+        plain-kept EVICTWORDS (omega arith) refl refl refl
+        (λ isThread fails. held-with thread isThread (evictWordsOf (logOf machine thread) place value) refl)
 
     logRelease-kept : Kept LOGREL
     unfolding effect logReleaseEffect stateTests logReleaseTests appendOf grownTail
@@ -387,6 +399,8 @@ module _ (machine : Machine) (history : List Fed) (follows : Follows machine his
   effect-follows logsNow PRUNE thread place value fails = prune-kept thread place value fails
   effect-follows logsNow EVICT thread place value fails = evict-kept thread place value fails
   effect-follows logsNow EVICTLOG thread place value fails = evictLog-kept thread place value fails
+  effect-follows logsNow EVICTCELL thread place value fails = evictCell-kept thread place value fails
+  effect-follows logsNow EVICTWORDS thread place value fails = evictWords-kept thread place value fails
 
   -- a refused step keeps what the machine has to do with its history
   pub refused-follows : (next : Fed) → next .accepted ≡ false → Follows machine (andThen history next)

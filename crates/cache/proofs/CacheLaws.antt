@@ -16,7 +16,7 @@ use Rattle.answer.specs.Lists.{setFrom}
 use Rattle.answer.proofs.ListLaws.{getD-unset, length-setFrom, getD-setFrom, getD-clearFrom, setFrom-none, length-mixFrom, getD-mixFrom}
 use Rattle.answer.proofs.ListLaws.{mixFrom-none, partly}
 use Rattle.cache.specs.Cache.{cellCount, lineCount, lineOf, pendingPlace, cachedAt, persistedAt, isDurable, isPending, cacheOf}
-use Rattle.cache.specs.Cache.{storeOf, flushOf, fenceOf, evictOf, persistedInto}
+use Rattle.cache.specs.Cache.{storeOf, flushOf, fenceOf, evictOf, evictCellOf, persistedInto}
 use Rattle.cache.specs.declared.Cache.{Cache}
 use Rattle.cache.proofs.Lines.{copied, copied-starts, copied-turn, copied-done}
 
@@ -48,10 +48,6 @@ withPersisted cache persisted = record {
   durable = cache .durable;
   pending = cache .pending;
 }
-
--- one cell is evicted: its cached content is persisted
-abbrev pub evictCellOf : Cache → ℕ → Cache
-evictCellOf cache cell = withPersisted cache (set (cache .persisted) cell (cachedAt cache cell))
 
 -- the first so many cells of a line are evicted, one after the other
 unfoldable pub evictCellsOf : Cache → ℕ → ℕ → Cache
@@ -89,6 +85,22 @@ module _ (cache : Cache) (sized : Sized cache) where
   pub isPending-out : (thread line : ℕ) → threadCount ≤ thread → isPending cache thread line ≡ false
   isPending-out thread line out =
       List·getD-eq-default (cache .pending) false {n = pendingPlace thread line} (omega (arith, sized .pending-long))
+
+-- an eviction persists the cached contents of some cells, and makes no cell durable
+evicted-kept : (cache evicted : Cache) → DurableKept cache → (isEvicted : ℕ → Bool) →
+    ((cell : ℕ) → cachedAt evicted cell ≡ cachedAt cache cell) →
+    ((cell : ℕ) → persistedAt evicted cell ≡ cond (isEvicted cell) (cachedAt cache cell) (persistedAt cache cell)) →
+    ((cell : ℕ) → isDurable evicted cell ≡ isDurable cache cell) → DurableKept evicted
+evicted-kept cache evicted was isEvicted cached persisted durable = record {
+  kept = λ cell isFirm.
+      persisted cell ∙
+      either (isEvicted cell) (cachedAt cache cell) (persistedAt cache cell) (was .kept cell (sym (durable cell) ∙ isFirm)) ∙
+      sym (cached cell);
+}
+  where
+    either : (test : Bool) (cached persisted : ℕ) → persisted ≡ cached → cond test cached persisted ≡ cached
+    either true cached persisted same = refl
+    either false cached persisted same = same
 
 module _ (cache : Cache) (sized : Sized cache) where
   -- ---- a store
@@ -280,7 +292,54 @@ module _ (cache : Cache) (sized : Sized cache) where
         settled true durable cached persisted was now = refl
         settled false durable cached persisted was now = was now
 
-  -- ---- an eviction
+  -- ---- an eviction of a cell
+
+  module _ (cell : ℕ) where
+    pub evictCellOf-sized : Sized (evictCellOf cache cell)
+    unfolding evictCellOf
+    evictCellOf-sized = record {
+      cached-long = sized .cached-long;
+      persisted-long = length-set (cache .persisted) cell (cachedAt cache cell) ∙ sized .persisted-long;
+      durable-long = sized .durable-long;
+      pending-long = sized .pending-long;
+    }
+
+    pub evictCellOf-cached : (other : ℕ) → cachedAt (evictCellOf cache cell) other ≡ cachedAt cache other
+    unfolding evictCellOf
+    evictCellOf-cached other = refl
+
+    pub evictCellOf-persisted : (other : ℕ) →
+        persistedAt (evictCellOf cache cell) other ≡ cond (eqb other cell) (cachedAt cache other) (persistedAt cache other)
+    unfolding evictCellOf
+    evictCellOf-persisted other =
+        by-cases (ℕ-discrete other cell)
+        (λ same. rw (eq-eqb other cell same) (rw same here))
+        (λ differs. rw (ne-eqb other cell differs) (getD-set-other (cache .persisted) cell other (cachedAt cache cell) 0 differs))
+      where
+        here : persistedAt (evictCellOf cache cell) cell ≡ cachedAt cache cell
+        here =
+            by-cases (decLt cell cellCount)
+            (λ below. getD-set-same (cache .persisted) cell (cachedAt cache cell) 0 (omega (arith, sized .persisted-long)))
+            (λ past.
+            List·getD-eq-default (evictCellOf cache cell .persisted) 0 {n = cell} (omega (arith, evictCellOf-sized .persisted-long)) ∙
+            sym (List·getD-eq-default (cache .cached) 0 {n = cell} (omega (arith, sized .cached-long))))
+
+    pub evictCellOf-durable : (other : ℕ) → isDurable (evictCellOf cache cell) other ≡ isDurable cache other
+    unfolding evictCellOf
+    evictCellOf-durable other = refl
+
+    -- a cell that is out of range changes nothing
+    pub evictCellOf-out : cellCount ≤ cell → evictCellOf cache cell ≡ cache
+    unfolding evictCellOf
+    evictCellOf-out out =
+        ap (withPersisted cache) (set-out (cache .persisted) cell (cachedAt cache cell) (omega (arith, sized .persisted-long)))
+
+    pub evictCellOf-kept : DurableKept cache → DurableKept (evictCellOf cache cell)
+    evictCellOf-kept was =
+        evicted-kept cache (evictCellOf cache cell) was (λ other. eqb other cell) evictCellOf-cached evictCellOf-persisted
+        evictCellOf-durable
+
+  -- ---- an eviction of a line
 
   module _ (line : ℕ) where
     pub evictOf-sized : Sized (evictOf cache line)
@@ -319,17 +378,8 @@ module _ (cache : Cache) (sized : Sized cache) where
     }
 
     pub evictOf-kept : DurableKept cache → DurableKept (evictOf cache line)
-    evictOf-kept was = record {
-      kept = λ cell durable.
-          evictOf-persisted cell ∙
-          either (eqb (lineOf cell) line) (cachedAt cache cell) (persistedAt cache cell)
-          (was .kept cell (sym (evictOf-durable cell) ∙ durable)) ∙
-          sym (evictOf-cached cell);
-    }
-      where
-        either : (test : Bool) (cached persisted : ℕ) → persisted ≡ cached → cond test cached persisted ≡ cached
-        either true cached persisted same = refl
-        either false cached persisted same = same
+    evictOf-kept was =
+        evicted-kept cache (evictOf cache line) was (λ cell. eqb (lineOf cell) line) evictOf-cached evictOf-persisted evictOf-durable
 
     as-long : length (cache .cached) ≡ length (cache .persisted)
     as-long = sized .cached-long ∙ sym (sized .persisted-long)
@@ -344,7 +394,7 @@ module _ (cache : Cache) (sized : Sized cache) where
     evictCellsOf-partly : (count : ℕ) → line < lineCount → count ≤ 8 →
         evictCellsOf cache line count ≡
         withPersisted cache (partly (line * 8 + count) (copied line (cache .cached) (cache .persisted)) (cache .persisted))
-    unfolding evictCellsOf
+    unfolding evictCellsOf evictCellOf
     evictCellsOf-partly zero within most =
         ap (withPersisted cache) (copied-starts line (cache .cached) (cache .persisted) as-long) ∙
         upTo (line * 8) (line * 8 + 0) (omega arith)
@@ -355,7 +405,7 @@ module _ (cache : Cache) (sized : Sized cache) where
         (omega (arith, sized .persisted-long))) ∙
         upTo (line * 8 + count + 1) (line * 8 + suc count) (omega arith)
 
-    -- evicting a line is evicting its eight cells in order: it waits for a step that evicts a single cell
+    -- evicting a line is evicting its eight cells in order
     pub evictOf-cells : line < lineCount → evictOf cache line ≡ evictCellsOf cache line 8
     unfolding evictOf
     evictOf-cells within =

@@ -92,6 +92,15 @@ evictOf cache line = record {
   pending = cache .pending;
 }
 
+-- EVICTCELL: "its seen content alone becomes kept" (document 02). Nothing becomes firm.
+unfoldable pub evictCellOf : Cache → ℕ → Cache
+evictCellOf cache cell = record {
+  cached = cache .cached;
+  persisted = set (cache .persisted) cell (cachedAt cache cell);
+  durable = cache .durable;
+  pending = cache .pending;
+}
+
 -- the writer of the persisted cells over a lent part of an image: its first 128 words are the cells, and a part that is too short is
 -- as it was
 unfoldable pub persistedInto : Cache → List ℕ → List ℕ

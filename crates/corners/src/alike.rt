@@ -9,6 +9,7 @@ use crate::listings::next;
 use crate::listings::put;
 use crate::listings::step_of;
 use crate::model;
+use crate::model::history;
 use crate::tally;
 use crate::tally::COUNTS;
 use answer::Answer;
@@ -66,6 +67,18 @@ fn note_again(met: &mut [u64; COUNTS], past: &[u64], thread: u64, cell: u64) {
     }
 }
 
+// Counts an accepted EVICTCELL that alters what is kept, and an accepted EVICTWORDS by its words.
+fn note_evicted(met: &mut [u64; COUNTS], start: &[u64], past: &[u64], step: Step) {
+    if step.kind == history::EVICTCELL {
+        if model::is_unkept(start, past, step.place) {
+            tally::add_cell(met);
+        }
+    }
+    if step.kind == history::EVICTWORDS {
+        tally::add_words(met, step.value);
+    }
+}
+
 // Counts a step's answer; a LOG's that is refused by 8 beside a full log; a LOG's that is accepted and makes no entry; and a FENCE's that
 // is accepted, by what it carried.
 fn note(met: &mut [u64; COUNTS], past: &[u64], kind: u64, thread: u64, place: u64, answer: u64) {
@@ -92,6 +105,9 @@ fn judged(past: &[u64], step: Step, answer: Answer, met: &mut [u64; COUNTS]) -> 
     let start = [START; CELLS];
     let number = answer::number(answer);
     note(met, past, step.kind, step.thread, step.place, number);
+    if number == 0 {
+        note_evicted(met, &start, past, step);
+    }
     let verdict = model::judge(&start, past, step.kind, step.thread, step.place, step.value);
     verdict.answer == number && verdict.number == answer::value(answer)
 }
@@ -196,21 +212,26 @@ fn recovered_damaged(image: &[u64; IMAGE_WORDS], chance: u64) -> u64 {
     recovered_part(&wide, image_words(other / 7), other / 3)
 }
 
-// The machine's image is the model's after this history.
-fn is_image(image: &[u64], past: &[u64]) -> bool {
+// The machine's image is the model's after this history. Counts the cut where the image has a torn entry.
+fn is_image(image: &[u64], past: &[u64], met: &mut [u64; COUNTS]) -> bool {
     let start = [START; CELLS];
     let mut other = [0u64; IMAGE_WORDS];
     model::cut(&start, past, &mut other);
+    tally::add_torn(
+        met,
+        model::has_torn_entry(past, false),
+        model::has_torn_entry(past, true),
+    );
     same(image, &other)
 }
 
 // The machine's image is the model's, after a history that is the first accepted steps of a list.
-fn image_alike(image: &[u64], past: &[u64], accepted: usize) -> bool {
+fn image_alike(image: &[u64], past: &[u64], accepted: usize, met: &mut [u64; COUNTS]) -> bool {
     if past.len() / 4 < accepted {
         return false;
     }
     let end = accepted * 4;
-    is_image(image, &past[..end])
+    is_image(image, &past[..end], met)
 }
 
 // Counts an answer of recovery, and says whether it is one.
@@ -230,7 +251,7 @@ fn cut_alike(
     chance: u64,
     met: &mut [u64; COUNTS],
 ) -> bool {
-    if !image_alike(image, past, accepted) {
+    if !image_alike(image, past, accepted, met) {
         return false;
     }
     if !noted(met, false, recovered(image)) {

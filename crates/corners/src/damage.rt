@@ -2,11 +2,11 @@
 use crate::listings::next;
 use crate::listings::set;
 use crate::model::history::at;
-use log::ENTRY_WORDS;
 use log::HEADS_AT;
 use log::IMAGE_WORDS;
 use log::LOGS_AT;
 use log::STRETCH_WORDS;
+use sizes::ENTRY_WORDS;
 use sizes::words;
 
 // An entry's kind STORE in an image.

@@ -5,6 +5,10 @@ ghost use lib.ListN.{length};
 // The steps of a generated listing.
 pub(crate) const STEPS: usize = 200;
 
+// The steps of a thread's two or three regions, after which it goes on with other places. Among them are an EVICTWORDS before the entries
+// are firm, and an EVICTCELL before the cell is.
+const STAGES: usize = 26;
+
 // The largest number that a field can be given.
 const LARGE: u64 = 18446744073709551615;
 
@@ -55,36 +59,41 @@ pub(crate) fn next(seed: u64) -> u64 {
 
 // A kind of step, some more often than others.
 fn kind_of(chance: u64) -> u64 {
-    let kinds = [1u64, 2, 2, 12, 3, 3, 12, 4, 5, 6, 7, 8, 9, 10, 11, 12];
-    let at = (chance % 16) as usize;
+    let kinds = [1u64, 2, 2, 12, 3, 3, 12, 4, 5, 6, 7, 8, 9, 10, 11, 13, 14];
+    let at = (chance % 17) as usize;
     kinds[at]
 }
 
-// A place for a kind: one of four cells in two lines, of two locks, of two lines or of 16 slots.
+// A place for a kind: one of four cells in two lines, of two locks, of two lines or of eight slots, which are enough for most logs.
 fn place_of(kind: u64, chance: u64) -> u64 {
-    if kind < 4 {
+    if kind < 4 || kind == 13 {
         return chance % 2 * 8 + chance / 2 % 2;
     }
-    if kind < 8 {
+    if kind < 8 || kind == 11 {
         return chance % 2;
     }
-    if kind == 11 {
-        return chance % 2;
-    }
-    if kind == 12 {
-        return chance % 16;
+    if kind == 12 || kind == 14 {
+        return chance % 8;
     }
     0
 }
 
-// A value for a kind.
+// A value for a kind: what a STORE sets, or how many words an EVICTWORDS keeps, now and then none or one too many.
 fn value_of(kind: u64, chance: u64) -> u64 {
+    if kind == 14 {
+        let words = [0u64, 1, 2, 3, 4, 5, 1, 2, 3, 4];
+        let at = (chance % 10) as usize;
+        return words[at];
+    }
     if kind == 3 { chance % 1000 } else { 0 }
 }
 
 // A thread for a kind.
 fn thread_of(kind: u64, chance: u64) -> u64 {
-    if kind == 11 { 0 } else { chance % 4 }
+    if kind == 11 || kind == 13 {
+        return 0;
+    }
+    chance % 4
 }
 
 // A step of any kind.
@@ -102,9 +111,14 @@ fn any_step(chance: u64) -> Step {
 
 // The last number that a step of the kind can have as place.
 fn last_place(kind: u64) -> u64 {
-    let last = [0u64, 127, 127, 127, 7, 7, 7, 15, 0, 0, 0, 15, 63];
-    let at = (kind % 13) as usize;
+    let last = [0u64, 127, 127, 127, 7, 7, 7, 15, 0, 0, 0, 15, 63, 127, 63];
+    let at = (kind % 15) as usize;
     last[at]
+}
+
+// The last number that a step of the kind can have as value, but for STORE, which can have any.
+fn last_value(kind: u64) -> u64 {
+    if kind == 14 { 4 } else { 0 }
 }
 
 // A number at or past the end of a field's range: the last one in it, one and two past it, far past it, and such as would be in range with
@@ -125,12 +139,12 @@ fn edge(last: u64, chance: u64) -> u64 {
     numbers[at]
 }
 
-// A kind that is none, but for 12, which is the last one.
+// A kind that is none, but for 14, which is the last one.
 fn edge_kind(chance: u64) -> u64 {
     if chance % 4 == 0 {
         return 0;
     }
-    edge(12, chance / 4)
+    edge(14, chance / 4)
 }
 
 // The step with one field at or past the end of its range, used or not.
@@ -143,14 +157,14 @@ fn spoiled(mut step: Step, chance: u64) -> Step {
     } else if field == 2 {
         step.place = edge(last_place(step.kind), chance / 13);
     } else {
-        step.value = edge(0, chance / 13);
+        step.value = edge(last_value(step.kind), chance / 13);
     }
     step
 }
 
 // A step of any kind, each as often as the others.
 fn even_step(chance: u64) -> Step {
-    let kind = chance / 7 % 12 + 1;
+    let kind = chance / 7 % 14 + 1;
     let second = next(chance);
     let third = next(second);
     Step {
@@ -176,9 +190,11 @@ fn plain_stage(stage: usize) -> u64 {
     let kinds = [
         4u64,
         2,
+        14,
         8,
         9,
         3,
+        13,
         5,
         8,
         9,
@@ -199,7 +215,7 @@ fn plain_stage(stage: usize) -> u64 {
         9,
         10,
     ];
-    kinds[stage % 24]
+    kinds[stage % STAGES]
 }
 
 // Two regions with PRUNEs before the first is finished, and before its cell is firm; the second one stores nothing.
@@ -207,9 +223,11 @@ fn hasty_stage(stage: usize) -> u64 {
     let kinds = [
         4u64,
         2,
+        14,
         8,
         9,
         3,
+        13,
         5,
         10,
         8,
@@ -230,7 +248,7 @@ fn hasty_stage(stage: usize) -> u64 {
         1,
         101,
     ];
-    kinds[stage % 24]
+    kinds[stage % STAGES]
 }
 
 // A region that the next ACQUIRE ends, with a PRUNE before it is firm; one under both locks; and one of a RELEASE alone.
@@ -238,6 +256,7 @@ fn nested_stage(stage: usize) -> u64 {
     let kinds = [
         4u64,
         2,
+        14,
         104,
         10,
         8,
@@ -246,6 +265,7 @@ fn nested_stage(stage: usize) -> u64 {
         8,
         9,
         103,
+        113,
         105,
         8,
         9,
@@ -261,7 +281,7 @@ fn nested_stage(stage: usize) -> u64 {
         10,
         1,
     ];
-    kinds[stage % 24]
+    kinds[stage % STAGES]
 }
 
 // The stage of a listing's regions.
@@ -276,8 +296,12 @@ fn stage_of(listing: u64, stage: usize) -> u64 {
     nested_stage(stage)
 }
 
-// The place of a thread's step: each region has the next cell of four, with its line, and the next lock of two.
-fn region_place(kind: u64, region: usize) -> u64 {
+// The place of a thread's step: each region has the next cell of four, with its line, and the next lock of two. A slot is drawn, since it
+// depends on the answers which slots the region's entries have.
+fn region_place(kind: u64, region: usize, chance: u64) -> u64 {
+    if kind == 14 {
+        return place_of(kind, chance);
+    }
     let number = (region % 4) as u64;
     place_of(kind, number)
 }
@@ -286,19 +310,19 @@ fn region_place(kind: u64, region: usize) -> u64 {
 fn region_step(listing: u64, thread: usize, stage: usize, chance: u64) -> Step {
     let code = stage_of(listing, stage);
     let kind = code % 100;
-    let region = thread % 4 + stage / 24 * 2 + (code / 100) as usize;
+    let region = thread % 4 + stage / STAGES * 2 + (code / 100) as usize;
     Step {
         kind,
-        thread: (thread % 4) as u64,
-        place: region_place(kind, region),
+        thread: thread_of(kind, thread as u64),
+        place: region_place(kind, region, chance / 13),
         value: value_of(kind, chance),
     }
 }
 
-// The thread whose turn it is in a generated listing: each takes twelve steps, three steps or one step in a row, by the listing's number.
+// The thread whose turn it is in a generated listing: each takes 13 steps, three steps or one step in a row, by the listing's number.
 fn thread_at(listing: u64, turns: usize) -> usize {
     if listing % 3 == 0 {
-        return turns / 12 % 4;
+        return turns / 13 % 4;
     }
     if listing % 3 == 1 {
         return turns / 3 % 4;
@@ -309,7 +333,7 @@ fn thread_at(listing: u64, turns: usize) -> usize {
 // How many turns the thread whose turn it is had before.
 fn stage_at(listing: u64, turns: usize) -> usize {
     if listing % 3 == 0 {
-        return turns / 48 * 12 + turns % 12;
+        return turns / 52 * 13 + turns % 13;
     }
     if listing % 3 == 1 {
         return turns / 12 * 3 + turns % 3;
@@ -317,15 +341,19 @@ fn stage_at(listing: u64, turns: usize) -> usize {
     turns / 4
 }
 
-// A step of a thread with a full log: those that make an entry or free some, of a few cells or of any.
+// A step of a thread with a full log: those that make an entry or free some, of a few cells or of any, and evictions of a few slots or of
+// any, nearly all of which have a live entry.
 fn crowded_step(thread: u64, chance: u64) -> Step {
-    let kinds = [2u64, 2, 2, 4, 5, 5, 6, 8, 9, 10, 2, 3, 6, 8, 9, 10];
+    let kinds = [2u64, 2, 2, 4, 5, 6, 8, 9, 10, 2, 3, 10, 14, 12, 14, 14];
     let at = (chance / 7 % 16) as usize;
     let kind = kinds[at];
     let second = next(chance);
     let mut place = place_of(kind, second / 13);
     if kind < 4 && second / 3 % 4 == 0 {
         place = second / 17 % 128;
+    }
+    if 11 < kind && second / 3 % 4 == 0 {
+        place = second / 17 % 64;
     }
     Step {
         kind,
@@ -339,11 +367,11 @@ fn crowded_step(thread: u64, chance: u64) -> Step {
 // other.
 fn filling_step(listing: u64, turns: usize, chance: u64) -> Step {
     let thread = listing / 8 % 4;
-    if turns < 11 {
+    if turns < 13 {
         return region_step(0, thread as usize, turns, chance);
     }
-    if turns == 11 {
-        return region_step(0, thread as usize, 12, chance);
+    if turns == 13 {
+        return region_step(0, thread as usize, 14, chance);
     }
     if turns < 80 {
         return Step {

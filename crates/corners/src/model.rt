@@ -65,6 +65,17 @@ pub(crate) fn has_unfenced_entry(past: &[u64], thread: u64) -> bool {
     0 < logs::unfenced(past, thread, history::next_step(past))
 }
 
+// After a history, the cell's kept content is not its seen one.
+pub(crate) fn is_unkept(start: &[u64], past: &[u64], cell: u64) -> bool {
+    let step = history::next_step(past);
+    cells::kept(start, past, cell, step) != cells::seen(start, past, cell, step)
+}
+
+// After a history, some slot keeps a part of an entry alone: over words of an older entry, or over zeros.
+pub(crate) fn has_torn_entry(past: &[u64], is_over_entry: bool) -> bool {
+    logs::has_torn(past, is_over_entry, history::next_step(past))
+}
+
 // Writes the image of a cut after a history; 21, and the buffer as it was, where it is not of 1,156 words.
 pub(crate) fn cut(start: &[u64], past: &[u64], image: &mut [u64]) -> u64 {
     if image.len() == 1156 {

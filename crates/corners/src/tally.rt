@@ -1,25 +1,38 @@
 // How often each answer was met, and the tables of that.
 use crate::model::history;
 
-// The answers to steps, 0 to 18.
-const ANSWERS: usize = 19;
+// The answers to steps, 0 to 19.
+const ANSWERS: usize = 20;
+
+// The rows of kinds: 14, and "other".
+const ROWS: usize = 15;
 
 // Where the answers of recovery begin: those to images of cuts, then those to damaged images, five each.
-const RECOVERED: usize = 247;
+const RECOVERED: usize = 300;
 
-// The counts: of 13 kinds, "other" among them, times 19 answers; of twice five answers of recovery; of LOGs that a full log would refuse
-// too; three of accepted LOGs of a cell with an entry in the current region; and four of accepted FENCEs.
-pub(crate) const COUNTS: usize = 265;
+// The counts: of 15 kinds, "other" among them, times 20 answers; of twice five answers of recovery; of LOGs that a full log would refuse
+// too; three of accepted LOGs of a cell with an entry in the current region; four of accepted FENCEs; four of accepted EVICTWORDS; two of
+// cuts with a torn entry; and of EVICTCELLs.
+pub(crate) const COUNTS: usize = 325;
 
 // The place of the count of LOGs that a full log would refuse too.
-const CROWDED: usize = 257;
+const CROWDED: usize = 310;
 
 // Where the counts of accepted LOGs of a cell with an entry in the current region begin: of all, of those after a STORE to the cell, and of
 // those with a full log.
-const AGAIN: usize = 258;
+const AGAIN: usize = 311;
 
 // Where the counts of accepted FENCEs begin: of those that carried nothing, lines alone, entries alone, and both.
-const FENCES: usize = 261;
+const FENCES: usize = 314;
+
+// Where the counts of accepted EVICTWORDS begin: of those of 1, 2, 3 and 4 words.
+const WORDS: usize = 318;
+
+// Where the counts of cuts with a torn entry begin: over zeros, and over an older entry.
+const TORN: usize = 322;
+
+// The place of the count of accepted EVICTCELLs that altered what is kept.
+const UNKEPT: usize = 324;
 
 // Counts one more.
 fn raise(met: &mut [u64; COUNTS], at: usize) {
@@ -35,21 +48,21 @@ fn count(met: &[u64; COUNTS], at: usize) -> u64 {
     if at < COUNTS { met[at] } else { 0 }
 }
 
-// A kind's row in the table: 0 to 11 for the kinds 1 to 12, and 12 for any other.
+// A kind's row in the table: 0 to 13 for the kinds 1 to 14, and 14 for any other.
 fn row_of(kind: u64) -> usize {
     if kind < 1 {
-        return 12;
+        return 14;
     }
-    if 12 < kind {
-        return 12;
+    if 14 < kind {
+        return 14;
     }
     (kind - 1) as usize
 }
 
 // Counts a step's answer.
 pub(crate) fn add_answer(met: &mut [u64; COUNTS], kind: u64, answer: u64) {
-    if answer < 19 {
-        raise(met, row_of(kind) % 13 * ANSWERS + answer as usize);
+    if answer < 20 {
+        raise(met, row_of(kind) % ROWS * ANSWERS + answer as usize);
     }
 }
 
@@ -81,6 +94,26 @@ pub(crate) fn add_fence(met: &mut [u64; COUNTS], has_lines: bool, has_entries: b
     } else {
         raise(met, FENCES);
     }
+}
+
+// Counts an accepted EVICTWORDS of so many words, 1 to 4.
+pub(crate) fn add_words(met: &mut [u64; COUNTS], words: u64) {
+    raise(met, WORDS + (words % 4 + 3) as usize % 4);
+}
+
+// Counts a cut with an entry that is torn over zeros, or with none, and one that is torn over an older entry, or with none.
+pub(crate) fn add_torn(met: &mut [u64; COUNTS], is_over_zeros: bool, is_over_entry: bool) {
+    if is_over_zeros {
+        raise(met, TORN);
+    }
+    if is_over_entry {
+        raise(met, TORN + 1);
+    }
+}
+
+// Counts an accepted EVICTCELL of a cell whose kept content was not its seen one.
+pub(crate) fn add_cell(met: &mut [u64; COUNTS]) {
+    raise(met, UNKEPT);
 }
 
 // Counts an answer of recovery to an image of a cut or to a damaged one; 0 and 21 to 24 are 0 to 4 modulo 5.
@@ -116,19 +149,22 @@ fn state_can_refuse(kind: u64, answer: u64) -> bool {
     if kind == history::PRUNE {
         return answer == 11 || 14 < answer && answer < 18;
     }
-    kind == history::EVICTLOG && answer == 18
+    (kind == history::EVICTLOG || kind == history::EVICTWORDS) && answer == 18
 }
 
-// The documents let a step of the kind be answered so; 13 stands for any kind that is none.
+// The documents let a step of the kind be answered so; 15 stands for any kind that is none.
 fn can_answer(kind: u64, answer: u64) -> bool {
-    if 12 < kind {
+    if history::EVICTWORDS < kind {
         return answer == 1;
     }
     if answer == 3 {
         return kind < history::FLUSHLOG || history::PRUNE < kind;
     }
     if answer == 4 {
-        return kind != history::STORE;
+        return kind != history::STORE && kind != history::EVICTWORDS;
+    }
+    if answer == 19 {
+        return kind == history::EVICTWORDS;
     }
     answer == 0 || answer == 2 || state_can_refuse(kind, answer)
 }
@@ -178,24 +214,31 @@ fn print_number(number: u64) {
     io::print_decimal(1, number);
 }
 
-// Prints eight bytes of a text, from a place on.
+// Prints ten bytes of a text, from a place on.
 fn print_part(text: &[u8], from: usize) {
-    if text.len() < 8 {
+    if text.len() < 10 {
         return;
     }
-    if text.len() - 8 < from {
+    if text.len() - 10 < from {
         return;
     }
-    let to = from + 8;
+    let to = from + 10;
     io::write_all(1, &text[from..to]);
 }
 
-// Prints a row's name, in eight places.
+// Prints a row's name, in ten places.
 fn print_name(row: usize) {
-    print_part(
-        b"LOAD    LOG     STORE   ACQUIRE LOGREL  RELEASE FLUSH   FLUSHLOGFENCE   PRUNE   EVICT   EVICTLOGother   ",
-        row % 13 * 8,
-    );
+    if row < 7 {
+        print_part(
+            b"LOAD      LOG       STORE     ACQUIRE   LOGREL    RELEASE   FLUSH     ",
+            row * 10,
+        );
+    } else {
+        print_part(
+            b"FLUSHLOG  FENCE     PRUNE     EVICT     EVICTLOG  EVICTCELL EVICTWORDSother     ",
+            (row - 7) % 8 * 10,
+        );
+    }
 }
 
 // Prints so many counts from a place on, as a row.
@@ -212,26 +255,55 @@ fn print_counts(met: &[u64; COUNTS], from: usize, columns: usize) {
 fn print_steps(met: &[u64; COUNTS]) {
     io::write_all(
         1,
-        b"kind         0     1     2     3     4     5     6     7     8     9",
+        b"kind           0     1     2     3     4     5     6     7     8     9",
     );
     io::write_all(
         1,
-        b"    10    11    12    13    14    15    16    17    18\n",
+        b"    10    11    12    13    14    15    16    17    18    19\n",
     );
     let mut row: usize = 0;
-    while row < 13 {
+    while row < ROWS {
         print_name(row);
-        print_counts(met, row % 13 * ANSWERS, ANSWERS);
+        print_counts(met, row % ROWS * ANSWERS, ANSWERS);
         row += 1;
     }
 }
 
 // Prints the table of recovery's answers.
 fn print_recovered(met: &[u64; COUNTS]) {
-    io::write_all(1, b"recovery     0    21    22    23    24\ncut     ");
+    io::write_all(1, b"recovery       0    21    22    23    24\ncut       ");
     print_counts(met, RECOVERED, 5);
-    io::write_all(1, b"damaged ");
+    io::write_all(1, b"damaged   ");
     print_counts(met, RECOVERED + 5, 5);
+}
+
+// Prints the counts of LOGs, of FENCEs and of evictions.
+fn print_noted(met: &[u64; COUNTS]) {
+    io::write_all(1, b"\nLOGs refused by 8 that 5 would refuse too: ");
+    io::print_decimal(1, count(met, CROWDED));
+    io::write_all(
+        1,
+        b"\naccepted LOGs of a cell with an entry in the current region: ",
+    );
+    io::print_decimal(1, count(met, AGAIN));
+    io::write_all(1, b"\nof these after a STORE to the cell: ");
+    io::print_decimal(1, count(met, AGAIN + 1));
+    io::write_all(1, b"\nof these with a full log: ");
+    io::print_decimal(1, count(met, AGAIN + 2));
+    io::write_all(
+        1,
+        b"\naccepted FENCEs that carried nothing, lines, entries, and both:",
+    );
+    print_counts(met, FENCES, 4);
+    io::write_all(1, b"accepted EVICTCELLs that altered what the cell keeps: ");
+    io::print_decimal(1, count(met, UNKEPT));
+    io::write_all(1, b"\naccepted EVICTWORDS of 1, 2, 3 and 4 words:");
+    print_counts(met, WORDS, 4);
+    io::write_all(
+        1,
+        b"cuts with an entry torn over zeros, and over an older entry:",
+    );
+    print_counts(met, TORN, 2);
 }
 
 // Prints the tables and what is missing in them.
@@ -250,22 +322,7 @@ pub(crate) fn print(met: &[u64; COUNTS]) {
     io::print_decimal(1, pairs(met, true, false));
     io::write_all(1, b"\nother pairs that were met: ");
     io::print_decimal(1, pairs(met, false, true));
-    io::write_all(1, b"\nLOGs refused by 8 that 5 would refuse too: ");
-    io::print_decimal(1, count(met, CROWDED));
-    io::write_all(
-        1,
-        b"\naccepted LOGs of a cell with an entry in the current region: ",
-    );
-    io::print_decimal(1, count(met, AGAIN));
-    io::write_all(1, b"\nof these after a STORE to the cell: ");
-    io::print_decimal(1, count(met, AGAIN + 1));
-    io::write_all(1, b"\nof these with a full log: ");
-    io::print_decimal(1, count(met, AGAIN + 2));
-    io::write_all(
-        1,
-        b"\naccepted FENCEs that carried nothing, lines, entries, and both:",
-    );
-    print_counts(met, FENCES, 4);
+    print_noted(met);
     io::write_all(
         1,
         b"images by recovery's answer, those of cuts and damaged ones:\n",

@@ -6,18 +6,19 @@ use native.Mathlib.Omega.{arith}
 use mathlib.Core.Path.{_≡_, refl, sym, ap, _∙_}
 use mathlib.Core.Logic.{_⊎_, inl, inr, by-cases, ⊎-elim}
 use mathlib.Core.Bool.{Bool, true, false, not, _||_, or-false, true≢false}
+use mathlib.Core.List.{_++_}
 use mathlib.Core.Option.{Option, none, some}
 use lib.Dec.{eqb, ltb, leb}
 use borrow.Author.Tests.{lt-ltb, le-ltb, le-leb, lt-leb, ltb-true, eqb-true, ne-eqb, not-false}
-use Rattle.sizes.specs.Sizes.{threadCount, lockCount}
+use Rattle.sizes.specs.Sizes.{threadCount, lockCount, entryWords}
 use Rattle.answer.specs.Answer.{numberOf}
 use Rattle.answer.specs.Refusals.{firstRefusal}
 use Rattle.answer.specs.declared.Answer.the-variants.{Accepted, NoSuchKind}
 use Rattle.answer.proofs.RefusalLaws.{AllFail, AllRefuse, none-holds}
 use Rattle.cache.specs.Cache.{cellCount, lineCount}
 use Rattle.ring.specs.Ring.{slotCount}
-use Rattle.kinds.specs.Kinds.{Kind, Field, unused, fieldsOf, isOver, isLeftOver}
-use Rattle.kinds.specs.Kinds.{kindOf, fieldTests, inputTests, inputAnswer}
+use Rattle.kinds.specs.Kinds.{Kind, Field, below, counted, free, unused, fieldsOf, isOver, isLeftOver}
+use Rattle.kinds.specs.Kinds.{kindOf, fieldTests, countTests, inputTests, inputAnswer}
 
 -- a place that is at least the bound is one that is not below it
 not-below : (bound place : ℕ) → leb bound place ≡ not (ltb place bound)
@@ -27,13 +28,22 @@ not-below bound place =
     (λ over. rw (le-leb bound place (omega arith), le-ltb place bound (omega arith)))
 
 -- the bound of a number that is at least another one, and is not that one
-above : (number least : ℕ) → least ≤ number → (number ≡ least → ⊥) → least + 1 ≤ number
+pub above : (number least : ℕ) → least ≤ number → (number ≡ least → ⊥) → least + 1 ≤ number
 above number least atLeast other = omega arith
 
 -- each test of the input is a refusal
+pub fields-refuse : (thread : ℕ) (over left : Bool) → AllRefuse (fieldTests thread over left)
+fields-refuse thread over left = (refl, (refl, (refl, tt)))
+
+count-refuses : (field : Field) (word : ℕ) → AllRefuse (countTests field word)
+count-refuses (below bound) word = tt
+count-refuses (counted most) word = (refl, tt)
+count-refuses free word = tt
+count-refuses unused word = tt
+
 pub input-refuses : (kind : Kind) (thread place value : ℕ) → AllRefuse (inputTests kind thread place value)
 unfolding inputTests
-input-refuses kind thread place value = (refl, (refl, (refl, tt)))
+input-refuses kind thread place value = (refl, (refl, (refl, count-refuses (fieldsOf kind .value) value)))
 
 -- ---- the rows of the table of kinds
 module _ (thread place value : ℕ) where
@@ -92,14 +102,28 @@ module _ (thread place value : ℕ) where
   unfolding kindOf inputTests
   slot-row number is = rw (is, not-below slotCount place)
 
-  -- a number below 1 or above 12 is in no row
-  pub no-row : (number : ℕ) → (number < 1) ⊎ (12 < number) → NoSuchKind ≡ inputAnswer (kindOf number) thread place value
+  -- the row of EVICTCELL
+  pub evict-cell-row : (number : ℕ) → number ≡ 13 →
+      firstRefusal (fieldTests thread (leb cellCount place) (not (eqb thread 0) || not (eqb value 0))) ≡
+      inputAnswer (kindOf number) thread place value
+  unfolding kindOf inputTests
+  evict-cell-row number is = rw (is, not-below cellCount place, or-false (not (eqb thread 0)))
+
+  -- the row of EVICTWORDS
+  pub words-row : (number : ℕ) → number ≡ 14 →
+      firstRefusal (fieldTests thread (leb slotCount place) false ++ countTests (counted entryWords) value) ≡
+      inputAnswer (kindOf number) thread place value
+  unfolding kindOf inputTests
+  words-row number is = rw (is, not-below slotCount place)
+
+  -- a number below 1 or above 14 is in no row
+  pub no-row : (number : ℕ) → (number < 1) ⊎ (14 < number) → NoSuchKind ≡ inputAnswer (kindOf number) thread place value
   unfolding kindOf
   no-row number outside =
       ⊎-elim
       (λ low. let is : number ≡ 0 = omega arith in rw is)
       (λ high.
-      let other : (kind : ℕ) → kind ≤ 12 → eqb number kind ≡ false = λ kind known. ne-eqb number kind (omega arith) in
+      let other : (kind : ℕ) → kind ≤ 14 → eqb number kind ≡ false = λ kind known. ne-eqb number kind (omega arith) in
       rw (
         other 1 (omega arith),
         other 2 (omega arith),
@@ -113,13 +137,17 @@ module _ (thread place value : ℕ) where
         other 10 (omega arith),
         other 11 (omega arith),
         other 12 (omega arith),
+        other 13 (omega arith),
+        other 14 (omega arith),
       ))
       outside
 
-  -- a number past EVICT's row that is not EVICTLOG's is in no row
-  pub no-later-row : (number : ℕ) → 11 ≤ number → (number ≡ 11 → ⊥) → (number ≡ 12 → ⊥) →
+  -- a number past PRUNE's row that is not one of the four evictions' is in no row
+  pub no-later-row : (number : ℕ) → 11 ≤ number → (number ≡ 11 → ⊥) → (number ≡ 12 → ⊥) → (number ≡ 13 → ⊥) → (number ≡ 14 → ⊥) →
       NoSuchKind ≡ inputAnswer (kindOf number) thread place value
-  no-later-row number atLeast notEvict notSlot = no-row number (inr (above number 12 (above number 11 atLeast notEvict) notSlot))
+  no-later-row number atLeast notEvict notSlot notCell notWords =
+      let past12 = above number 12 (above number 11 atLeast notEvict) notSlot in
+      no-row number (inr (above number 14 (above number 13 past12 notCell) notWords))
 
 -- an unused field with nothing left over is 0
 pub unused-zero : (field : Field) (word : ℕ) → field ≡ unused → isLeftOver field word ≡ false → word ≡ 0
@@ -192,24 +220,26 @@ module _ (thread place value number is : ℕ) (kind : Kind) (isKind : kindOf is 
   pub unused-value : fieldsOf kind .value ≡ unused → value ≡ 0
   unused-value isUnused = unused-zero (fieldsOf kind .value) value isUnused (accepted-unused thread place value kind of-kind .2)
 
--- the number of an accepted kind is 1 to 12
+-- the number of an accepted kind is 1 to 14
 pub known : (thread place value number : ℕ) → numberOf (inputAnswer (kindOf number) thread place value) ≡ 0 →
-    (1 ≤ number) × (number ≤ 12)
+    (1 ≤ number) × (number ≤ 14)
 known thread place value number isAccepted =
     by-cases (decLt number 1) (λ low. outside (inl low))
-    (λ one. by-cases (decLt 12 number) (λ high. outside (inr high)) (λ within. (omega arith, omega arith)))
+    (λ one. by-cases (decLt 14 number) (λ high. outside (inr high)) (λ within. (omega arith, omega arith)))
   where
-    outside : (number < 1) ⊎ (12 < number) → (1 ≤ number) × (number ≤ 12)
+    outside : (number < 1) ⊎ (14 < number) → (1 ≤ number) × (number ≤ 14)
     outside unknown =
         let never : _≡_ {A = ℕ} 1 0 = ap numberOf (no-row thread place value number unknown) ∙ isAccepted in absurd (omega arith)
 
--- an accepted kind that is none of the first eleven is the twelfth
+-- an accepted kind that is none of the first thirteen is the fourteenth
 pub last-kind : (thread place value number : ℕ) → numberOf (inputAnswer (kindOf number) thread place value) ≡ 0 →
     (number ≡ 1 → ⊥) → (number ≡ 2 → ⊥) → (number ≡ 3 → ⊥) → (number ≡ 4 → ⊥) → (number ≡ 5 → ⊥) → (number ≡ 6 → ⊥) →
-    (number ≡ 7 → ⊥) → (number ≡ 8 → ⊥) → (number ≡ 9 → ⊥) → (number ≡ 10 → ⊥) → (number ≡ 11 → ⊥) → number ≡ 12
-last-kind thread place value number isAccepted not1 not2 not3 not4 not5 not6 not7 not8 not9 not10 not11 =
+    (number ≡ 7 → ⊥) → (number ≡ 8 → ⊥) → (number ≡ 9 → ⊥) → (number ≡ 10 → ⊥) → (number ≡ 11 → ⊥) → (number ≡ 12 → ⊥) →
+    (number ≡ 13 → ⊥) → number ≡ 14
+last-kind thread place value number isAccepted not1 not2 not3 not4 not5 not6 not7 not8 not9 not10 not11 not12 not13 =
     let isKnown = known thread place value number isAccepted in
     let past3 = above number 3 (above number 2 (above number 1 (isKnown .0) not1) not2) not3 in
     let past6 = above number 6 (above number 5 (above number 4 past3 not4) not5) not6 in
     let past9 = above number 9 (above number 8 (above number 7 past6 not7) not8) not9 in
-    le-antisymm (isKnown .1) (above number 11 (above number 10 past9 not10) not11)
+    let past12 = above number 12 (above number 11 (above number 10 past9 not10) not11) not12 in
+    le-antisymm (isKnown .1) (above number 13 past12 not13)

@@ -20,9 +20,11 @@ use Rattle.locks.specs.declared.Holder.{Holder}
 use Rattle.locks.specs.declared.Holder.the-variants.{Nobody, Thread}
 use Rattle.locks.specs.declared.Lock.{Lock}
 use Rattle.machine.specs.Effects.{loadEffect, firstLogEffect, storeEffect, acquireEffect, logReleaseEffect, releaseEffect, flushEffect}
-use Rattle.machine.specs.Effects.{flushLogEffect, fenceEffect, pruneEffect, evictEffect, evictLogEffect, effect}
+use Rattle.machine.specs.Effects.{flushLogEffect, fenceEffect, pruneEffect, evictEffect, evictLogEffect, evictCellEffect, effect}
+use Rattle.machine.specs.Effects.{evictWordsEffect}
 use Rattle.machine.specs.Holds.{logOf, lockOf}
 use Rattle.kinds.specs.Kinds.{Kind, LOAD, LOG, STORE, ACQUIRE, LOGREL, RELEASE, FLUSH, FLUSHLOG, FENCE, PRUNE, EVICT, EVICTLOG}
+use Rattle.kinds.specs.Kinds.{EVICTCELL, EVICTWORDS}
 use Rattle.machine.specs.declared.Machine.{Machine}
 use Rattle.machine.proofs.LogCases.{log-cases}
 use Rattle.machine.proofs.AcceptedMeans.{acquire-asked, release-asked}
@@ -263,7 +265,7 @@ module _ (machine : Machine) (history : List Fed) (hold : HoldersHold machine hi
 
     effect-holders : (kind : Kind) → Kept kind
     unfolding effect loadEffect firstLogEffect storeEffect logReleaseEffect flushEffect flushLogEffect fenceEffect evictEffect
-        evictLogEffect
+        evictLogEffect evictCellEffect evictWordsEffect
     effect-holders LOAD = aside LOAD (λ is. omega arith) (λ is. omega arith) (λ lock. refl)
     effect-holders LOG =
         aside LOG (λ is. omega arith) (λ is. omega arith)
@@ -279,6 +281,8 @@ module _ (machine : Machine) (history : List Fed) (hold : HoldersHold machine hi
     effect-holders PRUNE = prune-holders
     effect-holders EVICT = aside EVICT (λ is. omega arith) (λ is. omega arith) (λ lock. refl)
     effect-holders EVICTLOG = aside EVICTLOG (λ is. omega arith) (λ is. omega arith) (λ lock. refl)
+    effect-holders EVICTCELL = aside EVICTCELL (λ is. omega arith) (λ is. omega arith) (λ lock. refl)
+    effect-holders EVICTWORDS = aside EVICTWORDS (λ is. omega arith) (λ is. omega arith) (λ lock. refl)
 
 -- at the start no lock is held, and no step was taken
 start-holders : (words : List ℕ) → HoldersHold (startMachine words) []

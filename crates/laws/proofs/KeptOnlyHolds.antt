@@ -1,4 +1,5 @@
--- Only document 01's kinds alter the image: which cells, heads and slots each effect leaves as they were, and so which words of the image.
+-- Only the kinds that the documents name alter the image: which cells, heads and slots each effect leaves as they were, and so which words
+-- of the image.
 use Prim.Native.Nat.{ℕ, _+_, _-_, _*_, _/_, _%_, _≤_, _<_}
 use native.Mathlib.Decide.{decLt}
 use native.Mathlib.Omega.{arith}
@@ -10,25 +11,27 @@ use mathlib.Core.Option.{some}
 use lib.ListN.{length, getD, set, List·getD-eq-default}
 use lib.Dec.{eqb}
 use borrow.Author.Tests.{lt-ltb, eq-eqb}
-use Rattle.sizes.specs.Sizes.{threadCount}
+use Rattle.sizes.specs.Sizes.{threadCount, entryWords}
 use Rattle.answer.specs.Answer.{isAccepted}
 use Rattle.answer.proofs.BelowLaws.{someBelow-none, found-someBelow}
 use Rattle.answer.proofs.ListCases.{set-cases}
-use Rattle.cache.specs.Cache.{cellCount, lineOf, cachedAt, persistedAt, isPending, fenceOf, evictOf}
+use Rattle.cache.specs.Cache.{cellCount, lineOf, cachedAt, persistedAt, isPending, fenceOf, evictOf, evictCellOf}
 use Rattle.cache.specs.declared.Cache.{Cache}
 use Rattle.cache.proofs.CacheLaws as CacheLaws
 use Rattle.ring.specs.Ring.{slotCount, slotOf}
 use Rattle.tail.specs.Tail.{unfenced}
-use Rattle.log.specs.Entries.{zeros, slotWords, appendOf, flushLogOf, fenceLogOf, evictSlotOf, dropOf}
-use Rattle.log.specs.Stretch.{imageWords, headsAt, entryWords, stretchWords, stretchAt}
+use Rattle.log.specs.Entries.{zeros, slotWords, appendOf, flushLogOf, fenceLogOf, evictWordsOf, dropOf}
+use Rattle.log.specs.Stretch.{imageWords, headsAt, stretchWords, stretchAt}
 use Rattle.log.specs.declared.Entry.{Entry}
 use Rattle.log.specs.declared.Log.{Log}
-use Rattle.log.proofs.SlotLaws.{slot-word, persist-other, run-elsewhere}
+use Rattle.log.proofs.SlotLaws.{slot-word, persist-word, run-elsewhere}
 use Rattle.undo.specs.Events.{endReleaseOf}
 use Rattle.kinds.specs.Kinds.{kindOf}
 use Rattle.kinds.specs.Kinds.{Kind, LOAD, LOG, STORE, ACQUIRE, LOGREL, RELEASE, FLUSH, FLUSHLOG, FENCE, PRUNE, EVICT, EVICTLOG}
+use Rattle.kinds.specs.Kinds.{EVICTCELL, EVICTWORDS}
 use Rattle.machine.specs.Effects.{effect, loadEffect, firstLogEffect, storeEffect, acquireEffect, logReleaseEffect, releaseEffect}
 use Rattle.machine.specs.Effects.{flushEffect, flushLogEffect, fenceEffect, pruneEffect, evictEffect, evictLogEffect}
+use Rattle.machine.specs.Effects.{evictCellEffect, evictWordsEffect}
 use Rattle.machine.specs.Holds.{noLog, logOf}
 use Rattle.machine.specs.Image.{imageOf}
 use Rattle.machine.specs.Runs.{Step, stepWith, Reached}
@@ -39,7 +42,8 @@ use Rattle.machine.proofs.Reaching.{after-then}
 use Rattle.machine.proofs.Sizes.{Sized, after-sized}
 use Rattle.machine.proofs.StepLaws.{step-cases}
 use Rattle.atomicity.specs.History.{startMachine, machineAfter}
-use Rattle.laws.specs.KeptOnly.{isLineWord, isSlotWord, isHeadWord, isPendingWord, isFlushedWord, alteredBy, mayAlter, KeptOnly}
+use Rattle.laws.specs.KeptOnly.{isLineWord, isCellWord, isFirstWord, isSlotWord, isHeadWord, isPendingWord, isFlushedWord}
+use Rattle.laws.specs.KeptOnly.{alteredBy, mayAlter, KeptOnly}
 use Rattle.atomicity.proofs.HistoryRuns.{effect-accepted, thread-in-range}
 use Rattle.atomicity.proofs.RunInvariantHolds.{after-run}
 
@@ -169,13 +173,25 @@ other-slot thread slot other index inEntry fails same =
     let own : eqb word (slotPlace thread other index) ≡ true = eq-eqb word (slotPlace thread other index) (rw same) in
     true≢false (sym (found-someBelow entryWords (λ at. eqb word (slotPlace thread other at)) index inEntry own) ∙ fails)
 
--- EVICTLOG leaves all of a log's words in the image but those of its slot
-evicted-log : (thread slot : ℕ) (log : Log) → KeptLog (isSlotWord thread slot) thread log (evictSlotOf log slot)
-unfolding evictSlotOf
-evicted-log thread slot log =
-    kept-slots (λ fails. refl)
-    (λ other index inEntry fails.
-    persist-other (log .cached) (log .persisted) slot other (other-slot thread other slot index inEntry fails))
+-- a word of a slot that is none of its first so many stands past them
+past-first : (thread slot count index : ℕ) → isFirstWord thread slot count (slotPlace thread slot index) ≡ false → count ≤ index
+past-first thread slot count index fails =
+    by-cases (decLt index count)
+    (λ inside.
+    let word : ℕ = slotPlace thread slot index in
+    absurd (true≢false
+    (sym (found-someBelow count (λ at. eqb word (slotPlace thread slot at)) index inside (eq-eqb word word refl)) ∙ fails)))
+    (λ past. omega (arith, past))
+
+-- EVICTWORDS, and EVICTLOG with all words, leaves all of a log's words in the image but the first so many of its slot
+evicted-words : (thread slot count : ℕ) (log : Log) → KeptLog (isFirstWord thread slot count) thread log (evictWordsOf log slot count)
+unfolding evictWordsOf
+evicted-words thread slot count log = record {
+  head = λ fails. refl;
+  slots = λ other index inEntry fails.
+      persist-word (log .cached) (log .persisted) slot count index other
+      (λ same. past-first thread slot count index (rw same at fails));
+}
 
 -- PRUNE leaves all of a log's words in the image but the thread's head
 dropped-log : (thread count : ℕ) (log : Log) → KeptLog (isHeadWord thread) thread log (dropOf log count)
@@ -223,6 +239,12 @@ module _ (cache : Cache) (sized : CacheLaws.Sized cache) where
     cells = λ cell inCells fails.
         let elsewhere : eqb (lineOf cell) line ≡ false = rw (lt-ltb cell cellCount inCells) at fails in
         CacheLaws.evictOf-persisted cache sized line cell ∙ ap (choice cell) elsewhere;
+  }
+
+  -- EVICTCELL leaves all persisted cells but its own
+  evicted-cell : (cell : ℕ) → KeptCells (isCellWord cell) cache (evictCellOf cache cell)
+  evicted-cell cell = record {
+    cells = λ other inCells fails. CacheLaws.evictCellOf-persisted cache sized cell other ∙ ap (choice other) fails;
   }
 
   -- FENCE leaves all persisted cells but those of the lines whose flush by this thread is pending
@@ -273,18 +295,19 @@ module _ (machine : Machine) (sized : Sized machine) (cacheSized : CacheLaws.Siz
   inLogs = rw (sized .logs) inThread
 
   -- the words that a FENCE leaves are neither of a marked line nor of a marked entry
-  neither-fenced : (word : ℕ) → alteredBy machine (some FENCE) thread place word ≡ false
+  neither-fenced : (word : ℕ) → alteredBy machine (some FENCE) thread place value word ≡ false
       → (isPendingWord (machine .cache) thread word ≡ false) × (isFlushedWord (logOf machine thread) thread word ≡ false)
   unfolding alteredBy
   neither-fenced word = neither (isPendingWord (machine .cache) thread word) (isFlushedWord (logOf machine thread) thread word)
 
-  effect-kept : (kind : Kind) → Kept (alteredBy machine (some kind) thread place) machine (effect machine kind thread place value .machine)
+  effect-kept : (kind : Kind)
+      → Kept (alteredBy machine (some kind) thread place value) machine (effect machine kind thread place value .machine)
   unfolding effect loadEffect firstLogEffect storeEffect acquireEffect logReleaseEffect releaseEffect flushEffect flushLogEffect fenceEffect
-      pruneEffect evictEffect evictLogEffect appendOf flushLogOf endReleaseOf alteredBy
+      pruneEffect evictEffect evictLogEffect evictCellEffect evictWordsEffect appendOf flushLogOf endReleaseOf alteredBy
   effect-kept LOAD = same-logs same-cells refl
   effect-kept LOG =
       log-cases
-      (λ stepped. Kept (alteredBy machine (some LOG) thread place) machine (stepped .machine))
+      (λ stepped. Kept (alteredBy machine (some LOG) thread place value) machine (stepped .machine))
       machine
       thread
       place
@@ -306,7 +329,9 @@ module _ (machine : Machine) (sized : Sized machine) (cacheSized : CacheLaws.Siz
       (log-outside (λ word fails. neither-fenced word fails .1) (fenced-log thread (logOf machine thread)))
   effect-kept PRUNE = one-log same-cells thread inLogs _ refl (dropped-log thread _ (logOf machine thread))
   effect-kept EVICT = same-logs (evicted-cells (machine .cache) cacheSized place) refl
-  effect-kept EVICTLOG = one-log same-cells thread inLogs _ refl (evicted-log thread place (logOf machine thread))
+  effect-kept EVICTLOG = one-log same-cells thread inLogs _ refl (evicted-words thread place entryWords (logOf machine thread))
+  effect-kept EVICTCELL = same-logs (evicted-cell (machine .cache) cacheSized place) refl
+  effect-kept EVICTWORDS = one-log same-cells thread inLogs _ refl (evicted-words thread place value (logOf machine thread))
 
 -- a refused step leaves all, and an accepted one all but the words of its kind
 step-kept : (machine : Machine) → Sized machine → CacheLaws.Sized (machine .cache) → (step : Step)
@@ -325,7 +350,7 @@ step-kept machine sized cacheSized step =
     (thread-in-range machine kind (step .thread) (step .place) (step .value) fails) kind))
   where
     byKind : ℕ → Bool
-    byKind = alteredBy machine (kindOf (step .kind)) (step .thread) (step .place)
+    byKind = alteredBy machine (kindOf (step .kind)) (step .thread) (step .place) (step .value)
 
 -- every machine that steps lead to has what it takes to read its image
 after-imaged : (words : List ℕ) (steps : List Step) → Imaged (machineAfter words steps)

@@ -6,14 +6,14 @@ use mathlib.Core.List.{List, [], _∷_, map}
 use native.Mathlib.Omega.{arith}
 use lib.Dec.{eqb}
 use lib.ListN.{length, getD, set}
-use Rattle.sizes.specs.Sizes.{threadCount}
+use Rattle.sizes.specs.Sizes.{threadCount, entryWords}
 use Rattle.answer.specs.Answer.{isAccepted, valueOf}
 use Rattle.answer.specs.declared.Answer.{Answer}
 use Rattle.answer.proofs.Beside.{beside-a-refusal}
 use Rattle.answer.proofs.ListLaws.{cond-same}
 use Rattle.answer.proofs.RefusalLaws.{AllFail}
 use Rattle.cache.specs.Cache.{cachedAt}
-use Rattle.log.specs.Entries.{liveCount, flushLogOf, fenceLogOf, evictSlotOf, dropOf, appendOf}
+use Rattle.log.specs.Entries.{liveCount, flushLogOf, fenceLogOf, evictWordsOf, dropOf, appendOf}
 use Rattle.undo.specs.Events.{enterOf, endReleaseOf}
 use Rattle.undo.specs.declared.Event.the-variants.{Store, Acquire, Release}
 use Rattle.undo.specs.Regions.{oldestRegion, isFound}
@@ -23,8 +23,10 @@ use Rattle.append.specs.Append.{grownTail}
 use Rattle.log.specs.declared.Log.{Log}
 use Rattle.region.proofs.OldestLaws.{region-live}
 use Rattle.machine.specs.Effects.{loadEffect, firstLogEffect, storeEffect, acquireEffect, logReleaseEffect, releaseEffect, flushEffect}
-use Rattle.machine.specs.Effects.{flushLogEffect, fenceEffect, pruneEffect, evictEffect, evictLogEffect, effect}
+use Rattle.machine.specs.Effects.{flushLogEffect, fenceEffect, pruneEffect, evictEffect, evictLogEffect, evictCellEffect, effect}
+use Rattle.machine.specs.Effects.{evictWordsEffect}
 use Rattle.kinds.specs.Kinds.{Kind, LOAD, LOG, STORE, ACQUIRE, LOGREL, RELEASE, FLUSH, FLUSHLOG, FENCE, PRUNE, EVICT, EVICTLOG}
+use Rattle.kinds.specs.Kinds.{EVICTCELL, EVICTWORDS}
 use Rattle.machine.specs.Holds.{noLog, logOf, lockOf}
 use Rattle.machine.specs.Runs.{Step, stepWith, after}
 use Rattle.machine.specs.declared.Machine.{Machine}
@@ -110,8 +112,8 @@ effect-balanced : (machine : Machine) → Headed machine → (kind : Kind) (thre
     Balanced machine (record { kind = kindNumber kind; thread = thread; place = place; value = value })
     (effect machine kind thread place value)
 unfolding effect loadEffect firstLogEffect storeEffect acquireEffect logReleaseEffect releaseEffect flushEffect
-    flushLogEffect fenceEffect pruneEffect evictEffect evictLogEffect appendOf grownTail flushLogOf flushedTail
-    endReleaseOf releasedTail fenceLogOf fencedTail evictSlotOf dropOf
+    flushLogEffect fenceEffect pruneEffect evictEffect evictLogEffect evictCellEffect evictWordsEffect appendOf grownTail
+    flushLogOf flushedTail endReleaseOf releasedTail fenceLogOf fencedTail evictWordsOf dropOf
 effect-balanced machine headed kind thread place value fails =
     by-kind
     kind
@@ -160,7 +162,10 @@ effect-balanced machine headed kind thread place value fails =
         (prune-logs machine thread place value) (omega arith) (omega arith)
     by-kind EVICT sized inRange order = balanced-same machine headed _ _ sized refl refl
     by-kind EVICTLOG sized inRange order =
-        balanced-log machine headed _ _ sized thread (evictSlotOf (logOf machine thread) place) inRange refl order refl
+        balanced-log machine headed _ _ sized thread (evictWordsOf (logOf machine thread) place entryWords) inRange refl order refl
+    by-kind EVICTCELL sized inRange order = balanced-same machine headed _ _ sized refl refl
+    by-kind EVICTWORDS sized inRange order =
+        balanced-log machine headed _ _ sized thread (evictWordsOf (logOf machine thread) place value) inRange refl order refl
 
 -- a refused step frees and appends nothing
 refusal-balance : (machine : Machine) (step : Step) (answer : Answer) → isAccepted answer ≡ false →

@@ -7,15 +7,17 @@ use mathlib.Core.List.{List}
 use mathlib.Core.Option.{Option, none, some}
 use lib.ListN.{length, getD}
 use lib.Dec.{eqb, ltb}
+use Rattle.sizes.specs.Sizes.{entryWords}
 use Rattle.answer.specs.Answer.{isAccepted}
 use Rattle.answer.specs.Lists.{someBelow}
 use Rattle.cache.specs.Cache.{cellCount, lineOf, isPending}
 use Rattle.cache.specs.declared.Cache.{Cache}
 use Rattle.ring.specs.Ring.{slotOf}
 use Rattle.tail.specs.Tail.{unfenced}
-use Rattle.log.specs.Stretch.{imageWords, headsAt, entryWords, stretchAt}
+use Rattle.log.specs.Stretch.{imageWords, headsAt, stretchAt}
 use Rattle.log.specs.declared.Log.{Log}
-use Rattle.kinds.specs.Kinds.{Kind, LOAD, LOG, STORE, ACQUIRE, LOGREL, RELEASE, FLUSH, FLUSHLOG, FENCE, PRUNE, EVICT, EVICTLOG, kindOf}
+use Rattle.kinds.specs.Kinds.{Kind, LOAD, LOG, STORE, ACQUIRE, LOGREL, RELEASE, FLUSH, FLUSHLOG, FENCE, PRUNE, EVICT, EVICTLOG}
+use Rattle.kinds.specs.Kinds.{EVICTCELL, EVICTWORDS, kindOf}
 use Rattle.machine.specs.Holds.{logOf}
 use Rattle.machine.specs.Image.{imageOf}
 use Rattle.machine.specs.Runs.{Step, stepWith}
@@ -26,9 +28,17 @@ use Rattle.atomicity.specs.History.{machineAfter}
 abbrev pub isLineWord : ℕ → ℕ → Bool
 isLineWord line word = ltb word cellCount && eqb (lineOf word) line
 
+-- EVICTCELL cell: the word is the cell
+abbrev pub isCellWord : ℕ → ℕ → Bool
+isCellWord cell word = eqb word cell
+
+-- EVICTWORDS thread, slot, count: the word is one of the first so many of the slot's, "in the order kind, place, value, rank"
+abbrev pub isFirstWord : ℕ → ℕ → ℕ → ℕ → Bool
+isFirstWord thread slot count word = someBelow count (λ index. eqb word (stretchAt thread + (slot * entryWords + index)))
+
 -- EVICTLOG thread, slot: the word is one of the slot's, "the words kind, place, value, rank"
 abbrev pub isSlotWord : ℕ → ℕ → ℕ → Bool
-isSlotWord thread slot word = someBelow entryWords (λ index. eqb word (stretchAt thread + (slot * entryWords + index)))
+isSlotWord thread slot word = isFirstWord thread slot entryWords word
 
 -- PRUNE, "by moving the head": the word is the thread's head
 abbrev pub isHeadWord : ℕ → ℕ → Bool
@@ -45,27 +55,30 @@ isFlushedWord log thread word =
     let tail = log .tail in
     someBelow (unfenced tail) (λ index. isSlotWord thread (slotOf (tail .durable .0 + 1 + index)) word)
 
--- "only FENCE, the evictions and, for heads, PRUNE": the words that an accepted step may alter, by its kind, thread and place
-unfoldable pub alteredBy : Machine → Option Kind → ℕ → ℕ → ℕ → Bool
-alteredBy machine none thread place word = false
-alteredBy machine (some LOAD) thread place word = false
-alteredBy machine (some LOG) thread place word = false
-alteredBy machine (some STORE) thread place word = false
-alteredBy machine (some ACQUIRE) thread place word = false
-alteredBy machine (some LOGREL) thread place word = false
-alteredBy machine (some RELEASE) thread place word = false
-alteredBy machine (some FLUSH) thread place word = false
-alteredBy machine (some FLUSHLOG) thread place word = false
-alteredBy machine (some FENCE) thread place word =
+-- "only FENCE, the evictions and, for heads, PRUNE": the words that an accepted step may alter, by its kind and fields
+unfoldable pub alteredBy : Machine → Option Kind → ℕ → ℕ → ℕ → ℕ → Bool
+alteredBy machine none thread place value word = false
+alteredBy machine (some LOAD) thread place value word = false
+alteredBy machine (some LOG) thread place value word = false
+alteredBy machine (some STORE) thread place value word = false
+alteredBy machine (some ACQUIRE) thread place value word = false
+alteredBy machine (some LOGREL) thread place value word = false
+alteredBy machine (some RELEASE) thread place value word = false
+alteredBy machine (some FLUSH) thread place value word = false
+alteredBy machine (some FLUSHLOG) thread place value word = false
+alteredBy machine (some FENCE) thread place value word =
     isPendingWord (machine .cache) thread word || isFlushedWord (logOf machine thread) thread word
-alteredBy machine (some PRUNE) thread place word = isHeadWord thread word
-alteredBy machine (some EVICT) thread place word = isLineWord place word
-alteredBy machine (some EVICTLOG) thread place word = isSlotWord thread place word
+alteredBy machine (some PRUNE) thread place value word = isHeadWord thread word
+alteredBy machine (some EVICT) thread place value word = isLineWord place word
+alteredBy machine (some EVICTLOG) thread place value word = isSlotWord thread place word
+alteredBy machine (some EVICTCELL) thread place value word = isCellWord place word
+alteredBy machine (some EVICTWORDS) thread place value word = isFirstWord thread place value word
 
 -- the words that a step with any four fields may alter: none where it is refused
 abbrev pub mayAlter : Machine → Step → ℕ → Bool
 mayAlter machine step word =
-    isAccepted (stepWith machine step .answer) && alteredBy machine (kindOf (step .kind)) (step .thread) (step .place) word
+    isAccepted (stepWith machine step .answer) &&
+    alteredBy machine (kindOf (step .kind)) (step .thread) (step .place) (step .value) word
 
 -- a step leaves the image its 1,156 words, and each word that it may not alter as it was
 pub record LeavesOthers (machine : Machine) (step : Step) : Type 0 where

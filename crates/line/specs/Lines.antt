@@ -26,11 +26,12 @@ before byte text = take (indexOf byte text) text
 unfoldable pub after : ℕ → List ℕ → List ℕ
 after byte text = drop (indexOf byte text + 1) text
 
--- the names of the kinds 1 to 12
+-- the names of the kinds 1 to 14: a name's place is its kind's number
 unfoldable pub names : List (List ℕ)
 names =
     ascii "LOAD" ∷ ascii "LOG" ∷ ascii "STORE" ∷ ascii "ACQUIRE" ∷ ascii "LOGREL" ∷ ascii "RELEASE" ∷
-    ascii "FLUSH" ∷ ascii "FLUSHLOG" ∷ ascii "FENCE" ∷ ascii "PRUNE" ∷ ascii "EVICT" ∷ ascii "EVICTLOG" ∷ []
+    ascii "FLUSH" ∷ ascii "FLUSHLOG" ∷ ascii "FENCE" ∷ ascii "PRUNE" ∷ ascii "EVICT" ∷ ascii "EVICTLOG" ∷
+    ascii "EVICTCELL" ∷ ascii "EVICTWORDS" ∷ []
 
 -- the number of the name that the text is, where the first name has this number
 unfoldable pub kindFrom : ℕ → List (List ℕ) → List ℕ → Field

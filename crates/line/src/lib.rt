@@ -63,7 +63,9 @@ fn named(name: &[u8], word: &[u8], kind: u64, others: Field) -> Field
 fn kind_named(name: &[u8]) -> Field
     ensures { λ r. ⌜ r ≡ kindNamed (now (name .entry)) ⌝ }
 {
-    let found = named(name, b"EVICTLOG", 12, Field::Nothing);
+    let found = named(name, b"EVICTWORDS", 14, Field::Nothing);
+    let found = named(name, b"EVICTCELL", 13, found);
+    let found = named(name, b"EVICTLOG", 12, found);
     let found = named(name, b"EVICT", 11, found);
     let found = named(name, b"PRUNE", 10, found);
     let found = named(name, b"FENCE", 9, found);

@@ -14,8 +14,8 @@ enum Verdict {
     Missing,
 }
 
-// How often each kind of step met each answer: 13 rows, kinds 1 to 12 and lines that can't be read, of 20 columns, answers 0 to 18 and 20.
-type Table = [u64; 260];
+// How often each kind of step met each answer: 15 rows, kinds 1 to 14 and lines that can't be read, of 21 columns, answers 0 to 20.
+type Table = [u64; 315];
 
 // The first bytes of the buffer, this many, or all where it has fewer.
 fn first(buffer: &[u8], count: usize) -> &[u8] {
@@ -88,41 +88,41 @@ fn answer_in(transcript: &[u8]) -> usize {
     first * 10 + second
 }
 
-// The table's row for a line: the kind less 1, and 12 for a line that can't be read.
+// The table's row for a line: the kind less 1, and 14 for a line that can't be read.
 fn row_of(line: Line, answer: usize) -> usize {
     let Line::Step { kind, .. } = line else {
-        return 12;
+        return 14;
     };
     // a listing that is too long is answered as if its first line couldn't be read
     if answer == 20 {
-        return 12;
+        return 14;
     }
     if kind == 0 {
-        return 12;
+        return 14;
     }
-    if 12 < kind {
-        return 12;
+    if 14 < kind {
+        return 14;
     }
     kind as usize - 1
 }
 
-// The table's column for an answer: 0 to 18 have one each, and the last is for 20.
+// The table's column for an answer: 0 to 20 have one each, and a larger number, which no transcript has, counts as 20.
 fn column_of(answer: usize) -> usize {
-    if answer < 19 {
+    if answer < 20 {
         return answer;
     }
-    19
+    20
 }
 
 // Counts one more in the table, up to the 9,999 that it has room for.
 fn add(counts: &mut Table, row: usize, column: usize) {
-    if 12 < row {
+    if 14 < row {
         return;
     }
-    if 19 < column {
+    if 20 < column {
         return;
     }
-    let at = row * 20 + column;
+    let at = row * 21 + column;
     let count = counts[at];
     if count < 9999 {
         counts[at] = count + 1;
@@ -226,11 +226,10 @@ fn write_number(report: &mut [u8], place: usize, number: u64) -> usize {
 fn write_answers(report: &mut [u8], place: usize) -> usize {
     let mut end = buffer::write(report, place, b"\nanswer    ");
     let mut answer: u64 = 0;
-    while answer < 19 {
+    while answer < 21 {
         end = write_number(report, end, answer);
         answer += 1;
     }
-    end = write_number(report, end, 20);
     buffer::write(report, end, b"\n")
 }
 
@@ -249,6 +248,8 @@ fn write_kind(report: &mut [u8], place: usize, row: usize) -> usize {
         9 => buffer::write(report, place, b"PRUNE     "),
         10 => buffer::write(report, place, b"EVICT     "),
         11 => buffer::write(report, place, b"EVICTLOG  "),
+        12 => buffer::write(report, place, b"EVICTCELL "),
+        13 => buffer::write(report, place, b"EVICTWORDS"),
         _ => buffer::write(report, place, b"unreadable"),
     }
 }
@@ -263,12 +264,12 @@ fn write_count(report: &mut [u8], place: usize, count: u64) -> usize {
 
 // Writes a row of the table.
 fn write_row(report: &mut [u8], place: usize, counts: &Table, row: usize) -> usize
-    requires { ⌜ row < 13 ⌝ }
+    requires { ⌜ row < 15 ⌝ }
 {
     let mut end = write_kind(report, place, row);
     let mut column = 0;
-    while column < 20 {
-        end = write_count(report, end, counts[row * 20 + column]);
+    while column < 21 {
+        end = write_count(report, end, counts[row * 21 + column]);
         column += 1;
     }
     buffer::write(report, end, b"\n")
@@ -278,7 +279,7 @@ fn write_row(report: &mut [u8], place: usize, counts: &Table, row: usize) -> usi
 fn write_table(report: &mut [u8], place: usize, counts: &Table) -> usize {
     let mut end = write_answers(report, place);
     let mut row = 0;
-    while row < 13 {
+    while row < 15 {
         end = write_row(report, end, counts, row);
         row += 1;
     }
@@ -297,7 +298,7 @@ fn write_sums(report: &mut [u8], place: usize, passed: u64, failed: u64) -> usiz
 // Marks the listings that are named, then prints the verdicts, the table and the sums in one write.
 fn main() {
     let mut report = [0u8; 8192];
-    let mut counts = [0u64; 260];
+    let mut counts = [0u64; 315];
     let mut end = 0;
     let mut passed: u64 = 0;
     let mut failed: u64 = 0;

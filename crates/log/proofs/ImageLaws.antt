@@ -4,11 +4,11 @@ use mathlib.Core.Path.{_≡_, ap, _∙_}
 use mathlib.Core.List.{List, [], _++_, map, flatten}
 use native.Mathlib.Omega.{arith}
 use lib.ListN.{length, getD, length-map}
-use Rattle.sizes.specs.Sizes.{threadCount}
+use Rattle.sizes.specs.Sizes.{threadCount, entryWords}
 use Rattle.answer.proofs.ListLaws.{getD-map}
 use Rattle.ring.specs.Ring.{slotCount}
 use Rattle.log.specs.Entries.{wordsOf}
-use Rattle.log.specs.Stretch.{headsAt, entryWords}
+use Rattle.log.specs.Stretch.{headsAt}
 use Rattle.log.specs.declared.Log.{Log}
 use Rattle.log.proofs.SlotLaws.{length-words}
 use Rattle.log.proofs.StretchLaws.{Reads, image-reads}

@@ -8,6 +8,7 @@ use native.Mathlib.Omega.{arith}
 use borrow.Author.Tests.{eq-eqb, eqb-true, leb-false}
 use lib.ListN.{length, getD, length-set}
 use lib.Seq.{getD-set-same, getD-set-other}
+use Rattle.sizes.specs.Sizes.{entryWords}
 use Rattle.answer.proofs.RefusalLaws.{AllFail}
 use Rattle.ring.specs.Ring.{slotCount, lastLsn, lsn, slotOf}
 use Rattle.tail.specs.Tail.{unfenced, flushedTail, fencedTail}
@@ -15,13 +16,13 @@ use Rattle.append.specs.Append.{grownTail, roomTests}
 use Rattle.tail.specs.declared.Releasing.{Releasing}
 use Rattle.tail.specs.declared.Tail.{Tail}
 use Rattle.log.specs.Entries.{entryOf, zeros, slotWords, wordsOf, entryAt, keptAt, withTail, isLiveSlot, appendTests, appendOf}
-use Rattle.log.specs.Entries.{flushLogOf, fenceLogOf, evictSlotOf, dropOf}
-use Rattle.log.specs.Stretch.{entryWords, lsnWord, holds}
+use Rattle.log.specs.Entries.{flushLogOf, fenceLogOf, evictWordsOf, dropOf}
+use Rattle.log.specs.Stretch.{lsnWord, holds}
 use Rattle.log.specs.declared.Entry.{Entry}
 use Rattle.log.specs.declared.Log.{Log}
 use Rattle.log.specs.declared.Payload.{Payload}
-use Rattle.log.proofs.SlotLaws.{live-slot, words-tell, holds-lsn, length-persistSlot, length-persistFrom, persist-here}
-use Rattle.log.proofs.SlotLaws.{persist-other, run-here, run-elsewhere}
+use Rattle.log.proofs.SlotLaws.{live-slot, words-tell, holds-lsn, torn-words, length-persistWords, length-persistFrom}
+use Rattle.log.proofs.SlotLaws.{persist-here, persist-other, run-here, run-elsewhere}
 use Rattle.log.proofs.SlotsHold as Slots
 use Rattle.log.proofs.SlotsHold.{Written, Marks, SlotsHold, slot-below}
 
@@ -163,27 +164,27 @@ module _ (log : Log) (says : ℕ → Payload) (inv : LogHolds log says) where
       (Slots.flush-holds lsn-written (in-words log says inv) (log .tail .next .0 - 1)
       (omega (arith, inv .durableFlushed, inv .flushedNext)) (omega (arith, inv .flushedNext)))
 
-  pub evict-holds : (slot : ℕ) → isLiveSlot log slot ≡ true → LogHolds (evictSlotOf log slot) says
-  unfolding evictSlotOf
-  evict-holds slot isLive =
+  -- a log of which words of a live entry are persisted, however many, keeps the invariant
+  pub tear-holds : (slot count : ℕ) → isLiveSlot log slot ≡ true → LogHolds (evictWordsOf log slot count) says
+  unfolding evictWordsOf
+  tear-holds slot count isLive =
       let live = live-slot log slot isLive in
       let inside : slot < length (log .persisted) = omega (arith, inv .persistedSlots, slot-below (live .0), live .3) in
       from-words
-      (evictSlotOf log slot)
+      (evictWordsOf log slot count)
       says
       (inv .cachedSlots)
-      (length-persistSlot (log .cached) (log .persisted) slot ∙ inv .persistedSlots)
+      (length-persistWords (log .cached) (log .persisted) slot count ∙ inv .persistedSlots)
       (Slots.evict-holds
       lsn-written
       (in-words log says inv)
       (live .0)
-      entryWords
+      count
       (live .1)
       (live .2)
-      (omega arith)
       (rw (live .3) (record {
-        here = ap slotWords (persist-here (log .cached) (log .persisted) slot inside);
-        elsewhere = λ other differs. ap slotWords (persist-other (log .cached) (log .persisted) slot other differs);
+        here = ap slotWords (persist-here (log .cached) (log .persisted) slot count inside) ∙ torn-words _ _ count;
+        elsewhere = λ other differs. ap slotWords (persist-other (log .cached) (log .persisted) slot count other differs);
       }))
       (λ other below. refl))
 

@@ -95,8 +95,8 @@ pub record Appends (cached cached′ entry entry′ : ℕ → List ℕ) (next : 
 
 module _ {said width : ℕ} {tag : ℕ → List ℕ} (written : Written said width tag) {entry cached kept : ℕ → List ℕ} {marks : Marks}
     (inv : SlotsHold said width tag entry cached kept marks) where
-  -- some words of a live entry are persisted: EVICTLOG, and an eviction of single words
-  module _ {after : ℕ → List ℕ} (live count : ℕ) (liveFrom : marks .head ≤ live) (liveTo : live < marks .next) (most : count ≤ width)
+  -- the first so many words of a live entry are persisted: EVICTWORDS, and EVICTLOG with all of them
+  module _ {after : ℕ → List ℕ} (live count : ℕ) (liveFrom : marks .head ≤ live) (liveTo : live < marks .next)
       (keeps : KeptWords cached kept after (slotOf live) count) where
     abbrev there : ℕ
     there = slotOf live
@@ -118,7 +118,7 @@ module _ {said width : ℕ} {tag : ℕ → List ℕ} (written : Written said wid
     whole tells =
         let long = isEntry .wide in
         after-there
-        ∙ torn-whole (kept there) (entry live) said sameWidth (omega (arith, written .saidIn)) count (omega arith)
+        ∙ torn-whole (kept there) (entry live) said sameWidth (omega (arith, written .saidIn)) count
         (λ told. inv .foundIs live liveFrom inWindow (told ∙ isEntry .tagged) .1)
         (ap (drop said) (sym after-there) ∙ (tells ∙ sym (isEntry .tagged)))
 

@@ -5,7 +5,7 @@ use mathlib.Core.List.{List, _++_}
 use mathlib.Core.Logic.{by-cases}
 use native.Mathlib.Decide.{decLt}
 use native.Mathlib.Omega.{arith}
-use lib.ListN.{length, take, drop, take-append-drop}
+use lib.ListN.{length, take, drop, length-take, take-append-drop}
 use lib.Seq.{length-take-le, take-append-le, drop-append-add, take-take, drop-drop}
 
 -- the words of the slot: the first so many are the new ones, and from there on the old ones
@@ -26,9 +26,9 @@ module _ (old new : List ℕ) (said : ℕ) (sameWidth : length old ≡ length ne
       ∙ ap (λ k. drop k old) back
 
   -- where all words before those that tell the LSN were reached, all that the entry says is there
-  new-says : (count : ℕ) → said ≤ count → count ≤ length new → take said (tornOver old new count) ≡ take said new
-  new-says count many most =
-      take-append-le said (take count new) (drop count old) (omega (arith, length-take-le count new most))
+  new-says : (count : ℕ) → said ≤ count → take said (tornOver old new count) ≡ take said new
+  new-says count many =
+      take-append-le said (take count new) (drop count old) (omega (arith, length-take count new))
       ∙ take-take said count new many
 
   -- words of an entry that the slot has already change nothing
@@ -36,14 +36,14 @@ module _ (old new : List ℕ) (said : ℕ) (sameWidth : length old ≡ length ne
   torn-same count same = ap (λ words. take count new ++ drop count words) same ∙ take-append-drop count new
 
   -- a slot that tells the entry's LSN has the entry whole, if that was so before
-  pub torn-whole : (count : ℕ) → count ≤ length new → (drop said old ≡ drop said new → old ≡ new)
+  pub torn-whole : (count : ℕ) → (drop said old ≡ drop said new → old ≡ new)
       → drop said (tornOver old new count) ≡ drop said new → tornOver old new count ≡ new
-  torn-whole count most wholeBefore tells =
+  torn-whole count wholeBefore tells =
       by-cases
       (decLt said count)
       (λ many.
       sym (take-append-drop said (tornOver old new count))
-      ∙ ap (λ front. front ++ drop said (tornOver old new count)) (new-says count (omega arith) most)
+      ∙ ap (λ front. front ++ drop said (tornOver old new count)) (new-says count (omega arith))
       ∙ ap (λ back. take said new ++ back) tells
       ∙ take-append-drop said new)
       (λ few. torn-same count (wholeBefore (sym (old-tells count (omega (arith, few))) ∙ tells)))

@@ -5,6 +5,7 @@ use mathlib.Core.Bool.{Bool, cond, not, _&&_}
 use mathlib.Core.List.{List, [], _∷_, _++_, map, flatten}
 use lib.ListN.{length, getD, set, replicate, drop}
 use lib.Dec.{eqb, leb, ltb}
+use Rattle.sizes.specs.Sizes.{entryWords}
 use Rattle.answer.specs.Lists.{someBelow}
 use Rattle.answer.specs.Refusals.{Test, _⇒_, unless}
 use Rattle.answer.specs.declared.Answer.the-variants.{Accepted, NoLiveEntry}
@@ -14,7 +15,7 @@ use Rattle.append.specs.Append.{grownTail, roomTests}
 use Rattle.ring.specs.declared.Lsn.{Lsn}
 use Rattle.tail.specs.declared.Releasing.{Releasing}
 use Rattle.tail.specs.declared.Tail.{Tail}
-use Rattle.log.specs.Stretch.{stretchWords}
+use Rattle.log.specs.Stretch.{lsnWord, stretchWords}
 use Rattle.log.specs.declared.Changed.{Changed}
 use Rattle.log.specs.declared.Entry.{Entry}
 use Rattle.log.specs.declared.Log.{Log}
@@ -93,9 +94,22 @@ withTail log tail = record { cached = log .cached; persisted = log .persisted; h
 unfoldable pub flushLogOf : Log → Log
 flushLogOf log = withTail log (flushedTail (log .tail))
 
--- the persisted slots after what is cached in a slot became kept
+-- a slot after the first so many words of an entry became kept over what stood there, "in the order kind, place, value, rank"
+abbrev pub tornOf : Entry → Entry → ℕ → Entry
+tornOf old new count = record {
+  kind = cond (ltb 0 count) (new .kind) (old .kind);
+  place = cond (ltb 1 count) (new .place) (old .place);
+  lsn = cond (ltb lsnWord count) (new .lsn) (old .lsn);
+  value = cond (ltb 2 count) (new .value) (old .value);
+}
+
+-- the persisted slots after the first so many words of what is cached in a slot became kept
+unfoldable pub persistWords : List Entry → List Entry → ℕ → ℕ → List Entry
+persistWords cached persisted slot count = set persisted slot (tornOf (getD persisted slot zeros) (getD cached slot zeros) count)
+
+-- the persisted slots after what is cached in a slot became kept, all of its words
 unfoldable pub persistSlot : List Entry → List Entry → ℕ → List Entry
-persistSlot cached persisted slot = set persisted slot (getD cached slot zeros)
+persistSlot cached persisted slot = persistWords cached persisted slot entryWords
 
 -- the persisted slots after the cached entries of so many LSNs from this one became kept
 unfoldable pub persistFrom : List Entry → List Entry → ℕ → ℕ → List Entry
@@ -116,22 +130,26 @@ fenceLogOf log = record {
 unfoldable pub evictSlotTests : Log → ℕ → List Test
 evictSlotTests log slot = (not (isLiveSlot log slot) ⇒ NoLiveEntry) ∷ []
 
--- EVICTLOG: "seen content becomes kept. Nothing becomes firm."
-unfoldable pub evictSlotOf : Log → ℕ → Log
-evictSlotOf log slot = record {
+-- EVICTWORDS: "the first so many words of the live entry there become kept", and "Neither makes anything firm" (document 02)
+unfoldable pub evictWordsOf : Log → ℕ → ℕ → Log
+evictWordsOf log slot count = record {
   cached = log .cached;
-  persisted = persistSlot (log .cached) (log .persisted) slot;
+  persisted = persistWords (log .cached) (log .persisted) slot count;
   head = log .head;
   tail = log .tail;
 }
 
--- an eviction of a slot: the log after it, or a refusal and the log as it was
-unfoldable pub evictedOf : Log → ℕ → Changed
-evictedOf log slot =
+-- EVICTLOG: "seen content becomes kept. Nothing becomes firm." All words of the entry do.
+abbrev pub evictSlotOf : Log → ℕ → Log
+evictSlotOf log slot = evictWordsOf log slot entryWords
+
+-- an eviction of words of a slot: the log after it, or a refusal and the log as it was
+unfoldable pub evictedWordsOf : Log → ℕ → ℕ → Changed
+evictedWordsOf log slot count =
     unless
     (λ answer. record { answer = answer; log = log })
     (evictSlotTests log slot)
-    (record { answer = Accepted 0; log = evictSlotOf log slot })
+    (record { answer = Accepted 0; log = evictWordsOf log slot count })
 
 -- the oldest so many entries dropped: "moving the head past" them
 unfoldable pub dropOf : Log → ℕ → Log

@@ -4,7 +4,7 @@ use mathlib.Core.Bool.{Bool, cond, _&&_}
 use mathlib.Core.List.{List, []}
 use lib.ListN.{length, getD, take, drop}
 use lib.Dec.{eqb, leb, ltb}
-use Rattle.sizes.specs.Sizes.{threadCount}
+use Rattle.sizes.specs.Sizes.{threadCount, entryWords}
 use Rattle.ring.specs.Ring.{slotCount, lastLsn, slotOf}
 
 -- "1,156 words: 128 kept cells; 4 heads; for threads 0 to 3, slots 0 to 63, the words kind, place, value, rank."
@@ -15,10 +15,7 @@ imageWords = 1156
 abbrev pub headsAt : ℕ
 headsAt = 128
 
--- the words of an entry in an image: what it says, and last the one that tells its LSN
-abbrev pub entryWords : ℕ
-entryWords = 4
-
+-- the words of an entry are what it says, and last the one that tells its LSN
 abbrev pub lsnWord : ℕ
 lsnWord = 3
 

@@ -3,7 +3,8 @@
 ghost use mathlib.Core.Path.{_≡_};
 ghost use Prim.Native.Nat.{_<_};
 ghost use lib.ListN.{getD};
-ghost use Rattle.log.specs.Entries.{slotWords, freshLog, appendedOf, flushLogOf, fenceLogOf, evictedOf, dropToOf, writtenOf};
+ghost use Rattle.log.specs.Entries.{slotWords, freshLog, appendedOf, flushLogOf, fenceLogOf, tornOf, evictedWordsOf};
+ghost use Rattle.log.specs.Entries.{dropToOf, writtenOf};
 ghost use Rattle.log.specs.Stretch.{stretchOf, wordAt, presentOf};
 use answer::Answer;
 use append::append_to;
@@ -11,17 +12,17 @@ use ring::Lsn;
 use ring::has_slot;
 use ring::next_slot;
 use ring::slot_after;
+use sizes::ENTRY_WORDS;
 use sizes::SLOTS;
 use sizes::THREADS;
 use sizes::words;
 use tail::Releasing;
 use tail::Tail;
 
-// The words of an entry in an image, of which the last one tells its LSN, and those of a log.
-pub const ENTRY_WORDS: usize = 4;
-
+// The last word of an entry in an image, which tells its LSN.
 const LSN_WORD: usize = 3;
 
+// The words of a log in an image.
 pub const STRETCH_WORDS: usize = 256;
 
 // Where the heads stand in an image, and where the logs do.
@@ -78,6 +79,26 @@ impl Entry {
             return self.value;
         }
         self.lsn.0 as u64
+    }
+
+    // What is persisted of a slot that had this entry, once the first so many words of another one are persisted there.
+    fn torn(mut self, new: Entry, count: usize) -> Entry
+        ensures { λ r. ⌜ r ≡ tornOf self new count ⌝ }
+    {
+        if 0 < count {
+            self.kind = new.kind;
+        }
+        if 1 < count {
+            self.place = new.place;
+        }
+        if 2 < count {
+            self.value = new.value;
+        }
+        if LSN_WORD < count {
+            let lsn = new.lsn;
+            self.lsn = lsn;
+        }
+        self
     }
 }
 
@@ -160,15 +181,18 @@ impl Log {
         self
     }
 
-    // EVICTLOG: the entry in the slot becomes persisted, and not durable; or 18 where no live one sits there, and the log as it was.
-    pub fn evict_slot(mut self, slot: usize) -> Changed
-        ensures { λ r. ⌜ r ≡ evictedOf self slot ⌝ }
+    // EVICTWORDS, and EVICTLOG with all words: the first so many words of the entry in the slot become persisted, and not durable; or 18
+    // where no live one sits there, and the log as it was.
+    pub fn evict_words(mut self, slot: usize, count: usize) -> Changed
+        ensures { λ r. ⌜ r ≡ evictedWordsOf self slot count ⌝ }
     {
         let head = self.head;
         let tail = self.tail;
         if has_slot(head, tail.live_count(head), slot) {
             let entry = self.cached[slot];
-            self.persisted[slot] = entry;
+            let before = self.persisted[slot];
+            let torn = before.torn(entry, count);
+            self.persisted[slot] = torn;
             Changed {
                 answer: Answer::Accepted(0),
                 log: self,

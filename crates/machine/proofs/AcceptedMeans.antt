@@ -22,7 +22,8 @@ use Rattle.machine.specs.Clocks.{loadRaces, logRaces}
 use Rattle.accesses.specs.Logs.{firstLogTests}
 use Rattle.machine.specs.Holds.{logOf, lockOf, clockOf}
 use Rattle.locks.specs.Locks.{isHeld, isHeldBy}
-use Rattle.kinds.specs.Kinds.{LOAD, LOG, STORE, ACQUIRE, LOGREL, RELEASE, FLUSH, FLUSHLOG, FENCE, PRUNE, EVICT, EVICTLOG, inputTests}
+use Rattle.kinds.specs.Kinds.{LOAD, LOG, STORE, ACQUIRE, LOGREL, RELEASE, FLUSH, FLUSHLOG, FENCE, PRUNE, EVICT, EVICTLOG}
+use Rattle.kinds.specs.Kinds.{EVICTCELL, EVICTWORDS, inputTests}
 use Rattle.locks.specs.LockSteps.{releaseTests}
 use Rattle.prune.specs.Pruning.{awaitsRelease, logsUndurable, pruneTests}
 use Rattle.machine.specs.Refusals.{loadTests, logTests, storeTests, acquireTests, logReleaseTests, stateTests}
@@ -234,16 +235,31 @@ pub evict-asked : (machine : Machine) (thread line value : ℕ) → AllFail (tes
 unfolding inputTests
 evict-asked machine thread line value fails = (below-bound thread threadCount (fails .0), below-bound line 16 (fails .1 .0))
 
-pub record EvictLogAsked (machine : Machine) (thread slot : ℕ) : Type 0 where
+pub evict-cell-asked : (machine : Machine) (thread cell value : ℕ) → AllFail (testsOf machine EVICTCELL thread cell value)
+    → (thread < threadCount) × (cell < 128)
+unfolding inputTests
+evict-cell-asked machine thread cell value fails = (below-bound thread threadCount (fails .0), below-bound cell 128 (fails .1 .0))
+
+-- EVICTLOG and EVICTWORDS ask for a live entry in the slot
+pub record SlotAsked (machine : Machine) (thread slot : ℕ) : Type 0 where
   pub inThread : thread < threadCount
   pub inSlot : slot < 64
   pub isLive : isLiveSlot (logOf machine thread) slot ≡ true
 
 pub evict-log-asked : (machine : Machine) (thread slot value : ℕ) → AllFail (testsOf machine EVICTLOG thread slot value)
-    → EvictLogAsked machine thread slot
+    → SlotAsked machine thread slot
 unfolding inputTests stateTests evictSlotTests
 evict-log-asked machine thread slot value fails = record {
   inThread = below-bound thread threadCount (fails .0);
   inSlot = below-bound slot 64 (fails .1 .0);
   isLive = not-false (isLiveSlot (logOf machine thread) slot) (fails .1 .1 .1 .0);
+}
+
+pub evict-words-asked : (machine : Machine) (thread slot value : ℕ) → AllFail (testsOf machine EVICTWORDS thread slot value)
+    → SlotAsked machine thread slot
+unfolding inputTests stateTests evictSlotTests
+evict-words-asked machine thread slot value fails = record {
+  inThread = below-bound thread threadCount (fails .0);
+  inSlot = below-bound slot 64 (fails .1 .0);
+  isLive = not-false (isLiveSlot (logOf machine thread) slot) (fails .1 .1 .1 .1 .0);
 }

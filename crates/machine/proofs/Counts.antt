@@ -14,7 +14,7 @@ use Rattle.answer.proofs.ListCases.{set-cases}
 use Rattle.answer.proofs.RefusalLaws.{AllFail}
 use Rattle.undo.specs.Events.{liveEvent, enterOf, endReleaseOf}
 use Rattle.cache.specs.Cache.{cachedAt}
-use Rattle.log.specs.Entries.{appendTests, flushLogOf, fenceLogOf, evictSlotOf, dropOf, appendOf}
+use Rattle.log.specs.Entries.{appendTests, flushLogOf, fenceLogOf, evictWordsOf, dropOf, appendOf}
 use Rattle.undo.specs.Regions.{oldestRegion, isFinished}
 use Rattle.tail.specs.Tail.{isReleasing, flushedTail, fencedTail, releasedTail}
 use Rattle.append.specs.Append.{grownTail}
@@ -29,15 +29,17 @@ use Rattle.clocks.specs.Clocks.{clockAt, joinOf, raisedOf, noClock, startClocks
 use Rattle.accesses.specs.Accesses.{loadedOf, loggedCellOf}
 use Rattle.machine.specs.Effects.{loadEffect, firstLogEffect, storeEffect, acquireEffect, logReleaseEffect, releaseEffect}
 use Rattle.machine.specs.Effects.{flushEffect, flushLogEffect, fenceEffect, pruneEffect, evictEffect, evictLogEffect, effect}
+use Rattle.machine.specs.Effects.{evictCellEffect, evictWordsEffect}
 use Rattle.locks.specs.Locks.{prunedLocks, noLock}
 use Rattle.machine.specs.Holds.{noLog, logOf, lockOf, clockOf, lockClockOf, startOf}
 use Rattle.kinds.specs.Kinds.{Kind, LOAD, LOG, STORE, ACQUIRE, LOGREL, RELEASE, FLUSH, FLUSHLOG, FENCE, PRUNE, EVICT, EVICTLOG}
+use Rattle.kinds.specs.Kinds.{EVICTCELL, EVICTWORDS}
 use Rattle.machine.specs.Runs.{Step, after, Reached}
 use Rattle.clocks.specs.declared.Clock.{Clock}
 use Rattle.locks.specs.declared.Lock.{Lock as LockState}
 use Rattle.machine.specs.declared.Machine.{Machine}
 use Rattle.machine.proofs.AcceptedMeans.{log-asked, first-log-asked, acquire-asked, log-release-asked, release-asked}
-use Rattle.machine.proofs.AcceptedMeans.{flush-log-asked, fence-asked, prune-asked, evict-log-asked}
+use Rattle.machine.proofs.AcceptedMeans.{flush-log-asked, fence-asked, prune-asked, evict-log-asked, evict-words-asked}
 use Rattle.machine.proofs.LogCases.{log-cases}
 use Rattle.machine.proofs.Beginnings.{machineWith, AllIdle, each-log, releases-nothing, lock-free, freshLogs, fresh-all, on-start}
 use Rattle.clocks.proofs.ClockLaws.{clockAt-join, clockAt-raised-other, clockAt-raised-own, clockAt-none, start-raised}
@@ -264,8 +266,8 @@ pruned-locks locks (Release held count) lock = changed-lock locks held _ 0 1 (om
 pub effect-counted : (machine : Machine) → Counted machine → (kind : Kind) (thread place value : ℕ)
     → AllFail (testsOf machine kind thread place value) → Counted (effect machine kind thread place value .machine)
 unfolding effect loadEffect firstLogEffect storeEffect acquireEffect logReleaseEffect releaseEffect flushEffect
-    flushLogEffect fenceEffect pruneEffect evictEffect evictLogEffect loadedOf loggedCellOf flushLogOf flushedTail
-    endReleaseOf releasedTail fenceLogOf fencedTail evictSlotOf
+    flushLogEffect fenceEffect pruneEffect evictEffect evictLogEffect evictCellEffect evictWordsEffect loadedOf loggedCellOf
+    flushLogOf flushedTail endReleaseOf releasedTail fenceLogOf fencedTail evictWordsOf
 effect-counted machine counted LOAD thread place value fails =
     counted-same machine _ counted (effect-sized machine (counted .sized) LOAD thread place value fails) refl refl refl refl
 effect-counted machine counted LOG thread place value fails =
@@ -386,6 +388,13 @@ effect-counted machine counted EVICT thread place value fails =
 effect-counted machine counted EVICTLOG thread place value fails =
     counted-log machine _ counted (effect-sized machine (counted .sized) EVICTLOG thread place value fails) thread _ 0 0
     (evict-log-asked machine thread place value fails .inThread)
+    (omega (arith, counted .nextBound thread, counted .headBound thread)) (λ lock. stays (lockOf machine lock)) refl
+    refl refl
+effect-counted machine counted EVICTCELL thread place value fails =
+    counted-same machine _ counted (effect-sized machine (counted .sized) EVICTCELL thread place value fails) refl refl refl refl
+effect-counted machine counted EVICTWORDS thread place value fails =
+    counted-log machine _ counted (effect-sized machine (counted .sized) EVICTWORDS thread place value fails) thread _ 0 0
+    (evict-words-asked machine thread place value fails .inThread)
     (omega (arith, counted .nextBound thread, counted .headBound thread)) (λ lock. stays (lockOf machine lock)) refl
     refl refl
 

@@ -8,11 +8,11 @@ use mathlib.Core.List.{List, _++_, append-nil}
 use lib.ListN.{length, getD, set, take, drop, length-set, length-append, length-take, length-drop, drop-of-length-le, List·getD-append}
 use lib.Seq.{ext-getD, take-all, length-take-le, getD-append-add, getD-take, getD-drop, getD-set-same, getD-set-other}
 use borrow.Author.Tests.{le-ltb, lt-ltb, eq-eqb}
-use Rattle.sizes.specs.Sizes.{threadCount}
+use Rattle.sizes.specs.Sizes.{threadCount, entryWords}
 use Rattle.cache.specs.Cache.{cellCount, persistedInto}
 use Rattle.cache.proofs.CacheLaws.{persistedInto-long}
 use Rattle.ring.specs.Ring.{slotCount}
-use Rattle.log.specs.Stretch.{imageWords, headsAt, entryWords, stretchWords, stretchAt, stretchOf}
+use Rattle.log.specs.Stretch.{imageWords, headsAt, stretchWords, stretchAt, stretchOf}
 use Rattle.log.specs.Entries.{wordsOf, writtenOf}
 use Rattle.log.specs.declared.Log.{Log}
 use Rattle.log.proofs.StretchLaws.{Reads}

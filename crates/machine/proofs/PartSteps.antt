@@ -12,7 +12,8 @@ use Rattle.answer.specs.declared.Answer.{Answer}
 use Rattle.answer.specs.declared.Answer.the-variants.{Accepted}
 use Rattle.answer.proofs.RefusalLaws.{AllFail, not-zero, unless-both}
 use Rattle.cache.specs.Cache.{cachedAt}
-use Rattle.log.specs.Entries.{evictSlotOf, evictedOf, dropOf}
+use Rattle.sizes.specs.Sizes.{entryWords}
+use Rattle.log.specs.Entries.{evictSlotTests, evictWordsOf, evictedWordsOf, dropOf}
 use Rattle.log.specs.declared.Changed.{Changed}
 use Rattle.log.specs.declared.Log.{Log}
 use Rattle.undo.specs.Events.{liveEvent, enterOf, endReleaseOf, placeOf}
@@ -20,8 +21,8 @@ use Rattle.undo.specs.Regions.{oldestRegion, loggedOf, storeTestsOn}
 use Rattle.undo.specs.declared.Event.the-variants.{Acquire, Release}
 use Rattle.undo.specs.declared.Found.{Found}
 use Rattle.undo.specs.declared.Found.the-variants.{Nowhere, At}
-use Rattle.kinds.specs.Kinds.{Kind, LOAD, LOG, STORE, ACQUIRE, LOGREL, RELEASE, FLUSH, FLUSHLOG, FENCE, PRUNE, EVICT, EVICTLOG, kindOf}
-use Rattle.kinds.specs.Kinds.{inputAnswer}
+use Rattle.kinds.specs.Kinds.{Kind, LOAD, LOG, STORE, ACQUIRE, LOGREL, RELEASE, FLUSH, FLUSHLOG, FENCE, PRUNE, EVICT, EVICTLOG}
+use Rattle.kinds.specs.Kinds.{EVICTCELL, EVICTWORDS, kindOf, inputAnswer}
 use Rattle.clocks.specs.Clocks.{clockAt, joinOf, raiseOf}
 use Rattle.accesses.specs.Accesses.{loadedOf}
 use Rattle.accesses.specs.Loads.{loadOn}
@@ -37,6 +38,7 @@ use Rattle.prune.specs.Pruning.{pruneOn}
 use Rattle.prune.specs.declared.Pruned.{Pruned}
 use Rattle.machine.specs.Effects.{accepted, effect, loadEffect, firstLogEffect, logEffectAt, logEffect, storeEffect}
 use Rattle.machine.specs.Effects.{acquireEffect, logReleaseEffect, releaseEffect, pruneEffect, evictLogEffect}
+use Rattle.machine.specs.Effects.{evictWordsEffect}
 use Rattle.machine.specs.Holds.{noLog, logOf, lockOf, clockOf, lockClockOf, withLog, withLocks, withLock, withClock}
 use Rattle.machine.specs.Holds.{withLockClock, withAccesses}
 use Rattle.machine.specs.Refusals.{stateTests, loadTests, logTests, storeTests, acquireTests, logReleaseTests}
@@ -229,28 +231,47 @@ module _ (machine : Machine) (thread place : ℕ) where
       refl
       (λ fails. refl)
 
-  pub evict-log-step : Accepts 12 thread place 0
-      → let changed = evictedOf (logOf machine thread) place in
-      Tells machine (stepOf machine 12 thread place 0) (changed .answer)
+  -- a kind that asks for a live entry in the slot and evicts so many of its words
+  slot-step : (number value count : ℕ) (kind : Kind) → kindOf number ≡ some kind → Accepts number thread place value
+      → stateTests machine kind thread place ≡ evictSlotTests (logOf machine thread) place
+      → effect machine kind thread place value ≡ accepted 0 (withLog machine thread (evictWordsOf (logOf machine thread) place count))
+      → let changed = evictedWordsOf (logOf machine thread) place count in
+      Tells machine (stepOf machine number thread place value) (changed .answer)
       (record { answer = changed .answer; machine = withLog machine thread (changed .log) })
-  unfolding kindOf evictedOf stateTests effect evictLogEffect
-  evict-log-step isAccepted =
+  unfolding evictedWordsOf
+  slot-step number value count kind isKind isAccepted isTests isEffect =
+      let told =
       by-answer
       machine
       thread
       place
-      0
-      12
-      EVICTLOG
-      refl
+      value
+      number
+      kind
+      isKind
       isAccepted
       (λ answer. record { answer = answer; log = logOf machine thread })
-      (record { answer = Accepted 0; log = evictSlotOf (logOf machine thread) place })
+      (record { answer = Accepted 0; log = evictWordsOf (logOf machine thread) place count })
       (λ (changed : Changed). changed .answer)
       (λ (changed : Changed). record { answer = changed .answer; machine = withLog machine thread (changed .log) })
       (λ answer. refl)
       refl
-      (λ fails. refl)
+      (λ fails. sym isEffect) in
+      rw isTests at told
+
+  pub evict-log-step : Accepts 12 thread place 0
+      → let changed = evictedWordsOf (logOf machine thread) place entryWords in
+      Tells machine (stepOf machine 12 thread place 0) (changed .answer)
+      (record { answer = changed .answer; machine = withLog machine thread (changed .log) })
+  unfolding kindOf stateTests effect evictLogEffect
+  evict-log-step isAccepted = slot-step 12 0 entryWords EVICTLOG refl isAccepted refl refl
+
+  pub evict-words-step : (count : ℕ) → Accepts 14 thread place count
+      → let changed = evictedWordsOf (logOf machine thread) place count in
+      Tells machine (stepOf machine 14 thread place count) (changed .answer)
+      (record { answer = changed .answer; machine = withLog machine thread (changed .log) })
+  unfolding kindOf stateTests effect evictWordsEffect
+  evict-words-step count isAccepted = slot-step 14 count count EVICTWORDS refl isAccepted refl refl
 
   -- a STORE is refused by its tests, or taken
   pub store-step : (value : ℕ) → Accepts 3 thread place value
@@ -358,3 +379,7 @@ module _ (machine : Machine) (thread place : ℕ) where
   pub evict-step : Accepts 11 0 place 0 → effect machine EVICT 0 place 0 ≡ stepOf machine 11 0 place 0
   unfolding kindOf stateTests
   evict-step isAccepted = plain machine 0 place 0 11 EVICT refl isAccepted refl
+
+  pub evict-cell-step : Accepts 13 0 place 0 → effect machine EVICTCELL 0 place 0 ≡ stepOf machine 13 0 place 0
+  unfolding kindOf stateTests
+  evict-cell-step isAccepted = plain machine 0 place 0 13 EVICTCELL refl isAccepted refl

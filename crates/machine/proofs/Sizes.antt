@@ -5,6 +5,7 @@ use mathlib.Core.List.{List}
 use lib.ListN.{length, length-set}
 use Rattle.sizes.specs.Sizes.{threadCount, lockCount}
 use Rattle.answer.proofs.RefusalLaws.{AllFail}
+use Rattle.cache.specs.declared.Cache.{Cache}
 use Rattle.undo.specs.Events.{liveEvent}
 use Rattle.log.specs.Entries.{dropOf}
 use Rattle.undo.specs.Regions.{oldestRegion}
@@ -14,9 +15,10 @@ use Rattle.log.specs.declared.Log.{Log}
 use Rattle.accesses.specs.Accesses.{loadedOf, loggedCellOf}
 use Rattle.machine.specs.Effects.{loadEffect, firstLogEffect, storeEffect, acquireEffect, logReleaseEffect, releaseEffect}
 use Rattle.machine.specs.Effects.{flushEffect, flushLogEffect, fenceEffect, pruneEffect, countPruned, evictEffect}
-use Rattle.machine.specs.Effects.{evictLogEffect, effect}
-use Rattle.machine.specs.Holds.{logOf, withLog, startOf}
+use Rattle.machine.specs.Effects.{evictLogEffect, evictCellEffect, evictWordsEffect, effect}
+use Rattle.machine.specs.Holds.{logOf, withCache, withLog, startOf}
 use Rattle.kinds.specs.Kinds.{Kind, LOAD, LOG, STORE, ACQUIRE, LOGREL, RELEASE, FLUSH, FLUSHLOG, FENCE, PRUNE, EVICT, EVICTLOG}
+use Rattle.kinds.specs.Kinds.{EVICTCELL, EVICTWORDS}
 use Rattle.machine.specs.Runs.{Step, after}
 use Rattle.machine.specs.declared.Machine.{Machine}
 use Rattle.machine.proofs.Beginnings.{machineWith, AllIdle, freshLogs, fresh-all, on-start}
@@ -58,10 +60,21 @@ withLog-sized machine thread log sized = record {
   loggers = sized .loggers;
 }
 
+pub withCache-sized : (machine : Machine) (cache : Cache) → Sized machine → Sized (withCache machine cache)
+withCache-sized machine cache sized = record {
+  logs = sized .logs;
+  clocks = sized .clocks;
+  lockClocks = sized .lockClocks;
+  locks = sized .locks;
+  stamps = sized .stamps;
+  logged = sized .logged;
+  loggers = sized .loggers;
+}
+
 pub effect-sized : (machine : Machine) → Sized machine → (kind : Kind) (thread place value : ℕ)
     → AllFail (testsOf machine kind thread place value) → Sized (effect machine kind thread place value .machine)
 unfolding effect loadEffect firstLogEffect storeEffect acquireEffect logReleaseEffect releaseEffect flushEffect
-    flushLogEffect fenceEffect pruneEffect evictEffect evictLogEffect loadedOf loggedCellOf
+    flushLogEffect fenceEffect pruneEffect evictEffect evictLogEffect evictCellEffect evictWordsEffect loadedOf loggedCellOf
 effect-sized machine sized LOAD thread place value fails = record {
   logs = sized .logs;
   clocks = sized .clocks;
@@ -87,15 +100,7 @@ effect-sized machine sized LOG thread place value fails =
       loggers = simp length-set (sized .loggers);
     })
     (λ number isAt. sized)
-effect-sized machine sized STORE thread place value fails = record {
-  logs = sized .logs;
-  clocks = sized .clocks;
-  lockClocks = sized .lockClocks;
-  locks = sized .locks;
-  stamps = sized .stamps;
-  logged = sized .logged;
-  loggers = sized .loggers;
-}
+effect-sized machine sized STORE thread place value fails = withCache-sized machine _ sized
 effect-sized machine sized ACQUIRE thread place value fails = record {
   logs = simp length-set (sized .logs);
   clocks = simp length-set (sized .clocks);
@@ -115,15 +120,7 @@ effect-sized machine sized RELEASE thread place value fails = record {
   logged = sized .logged;
   loggers = sized .loggers;
 }
-effect-sized machine sized FLUSH thread place value fails = record {
-  logs = sized .logs;
-  clocks = sized .clocks;
-  lockClocks = sized .lockClocks;
-  locks = sized .locks;
-  stamps = sized .stamps;
-  logged = sized .logged;
-  loggers = sized .loggers;
-}
+effect-sized machine sized FLUSH thread place value fails = withCache-sized machine _ sized
 effect-sized machine sized FLUSHLOG thread place value fails = withLog-sized machine thread _ sized
 effect-sized machine sized FENCE thread place value fails = record {
   logs = simp length-set (sized .logs);
@@ -138,16 +135,10 @@ effect-sized machine sized PRUNE thread place value fails =
     pruned-sized (withLog machine thread (dropOf (logOf machine thread) (oldestRegion (logOf machine thread))))
     (liveEvent (logOf machine thread) (oldestRegion (logOf machine thread) - 1))
     (withLog-sized machine thread _ sized)
-effect-sized machine sized EVICT thread place value fails = record {
-  logs = sized .logs;
-  clocks = sized .clocks;
-  lockClocks = sized .lockClocks;
-  locks = sized .locks;
-  stamps = sized .stamps;
-  logged = sized .logged;
-  loggers = sized .loggers;
-}
+effect-sized machine sized EVICT thread place value fails = withCache-sized machine _ sized
 effect-sized machine sized EVICTLOG thread place value fails = withLog-sized machine thread _ sized
+effect-sized machine sized EVICTCELL thread place value fails = withCache-sized machine _ sized
+effect-sized machine sized EVICTWORDS thread place value fails = withLog-sized machine thread _ sized
 
 -- the lengths at a beginning
 pub begin-sized : (cells : List ℕ) (logs : List Log) → AllIdle logs → Sized (machineWith cells logs)

@@ -4,16 +4,18 @@ use mathlib.Core.Path.{_≡_, refl, sym, ap, _∙_, subst}
 use mathlib.Core.List.{List, map}
 use lib.ListN.{length, getD, replicate, getD-replicate, length-map, List·getD-map}
 use lib.Seq.{map-set-same}
-use Rattle.sizes.specs.Sizes.{threadCount}
-use Rattle.log.specs.Entries.{freshLog, flushLogOf, fenceLogOf, evictSlotOf, dropOf, appendOf}
+use Rattle.sizes.specs.Sizes.{threadCount, entryWords}
+use Rattle.log.specs.Entries.{freshLog, flushLogOf, fenceLogOf, evictWordsOf, dropOf, appendOf}
 use Rattle.undo.specs.Events.{endReleaseOf}
 use Rattle.undo.specs.Regions.{oldestRegion}
 use Rattle.ring.specs.Ring.{slotCount}
 use Rattle.log.specs.declared.Log.{Log}
-use Rattle.log.proofs.SlotLaws.{length-persistSlot, length-persistFrom}
+use Rattle.log.proofs.SlotLaws.{length-persistWords, length-persistFrom}
 use Rattle.machine.specs.Effects.{loadEffect, firstLogEffect, storeEffect, acquireEffect, logReleaseEffect, releaseEffect}
 use Rattle.machine.specs.Effects.{flushEffect, flushLogEffect, fenceEffect, pruneEffect, evictEffect, evictLogEffect, effect}
+use Rattle.machine.specs.Effects.{evictCellEffect, evictWordsEffect}
 use Rattle.kinds.specs.Kinds.{Kind, LOAD, LOG, STORE, ACQUIRE, LOGREL, RELEASE, FLUSH, FLUSHLOG, FENCE, PRUNE, EVICT, EVICTLOG}
+use Rattle.kinds.specs.Kinds.{EVICTCELL, EVICTWORDS}
 use Rattle.machine.specs.Holds.{noLog, logOf, withLog, startOf}
 use Rattle.machine.specs.Runs.{Reached}
 use Rattle.machine.specs.declared.Machine.{Machine}
@@ -39,8 +41,8 @@ module _ (machine : Machine) (thread : ℕ) (log : Log) where
 effect-same : (machine : Machine) (kind : Kind) (thread place value : ℕ)
     → slotCounts (effect machine kind thread place value .machine .logs) ≡ slotCounts (machine .logs)
 unfolding effect loadEffect firstLogEffect storeEffect acquireEffect logReleaseEffect releaseEffect flushEffect
-    flushLogEffect fenceEffect pruneEffect evictEffect evictLogEffect appendOf flushLogOf endReleaseOf fenceLogOf
-    evictSlotOf dropOf
+    flushLogEffect fenceEffect pruneEffect evictEffect evictLogEffect evictCellEffect evictWordsEffect appendOf flushLogOf
+    endReleaseOf fenceLogOf evictWordsOf dropOf
 effect-same machine LOAD thread place value = refl
 effect-same machine LOG thread place value =
     log-cases
@@ -61,7 +63,10 @@ effect-same machine PRUNE thread place value =
     put-same machine thread (dropOf (logOf machine thread) (oldestRegion (logOf machine thread))) refl
 effect-same machine EVICT thread place value = refl
 effect-same machine EVICTLOG thread place value =
-    put-same machine thread (evictSlotOf (logOf machine thread) place) (length-persistSlot _ _ _)
+    put-same machine thread (evictWordsOf (logOf machine thread) place entryWords) (length-persistWords _ _ _ _)
+effect-same machine EVICTCELL thread place value = refl
+effect-same machine EVICTWORDS thread place value =
+    put-same machine thread (evictWordsOf (logOf machine thread) place value) (length-persistWords _ _ _ _)
 
 start-stretched : (words : List ℕ) → Stretched (startOf words .machine)
 unfolding freshLog slotCounts

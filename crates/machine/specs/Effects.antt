@@ -1,10 +1,10 @@
 -- "Steps": what each kind does once no refusal holds, and the number that it answers.
 use Prim.Native.Nat.{ℕ, _+_, _-_}
 use Rattle.answer.specs.declared.Answer.the-variants.{Accepted}
-use Rattle.cache.specs.Cache.{cachedAt, pendingCount, storeOf, flushOf, fenceOf, evictOf}
+use Rattle.cache.specs.Cache.{cachedAt, pendingCount, storeOf, flushOf, fenceOf, evictOf, evictCellOf}
 use Rattle.undo.specs.Events.{liveEvent, enterOf, endReleaseOf}
 use Rattle.tail.specs.Tail.{unfenced}
-use Rattle.log.specs.Entries.{flushLogOf, fenceLogOf, evictSlotOf, dropOf}
+use Rattle.log.specs.Entries.{flushLogOf, fenceLogOf, evictSlotOf, evictWordsOf, dropOf}
 use Rattle.undo.specs.Regions.{oldestRegion, loggedOf}
 use Rattle.undo.specs.declared.Event.{Event}
 use Rattle.undo.specs.declared.Event.the-variants.{Store, Acquire, Release}
@@ -17,6 +17,7 @@ use Rattle.machine.specs.Holds.{logOf, lockOf, clockOf, lockClockOf, wit
 use Rattle.machine.specs.Holds.{withLockClock, withLocks}
 use Rattle.locks.specs.Locks.{takenBy, freedOf, prunedLocks}
 use Rattle.kinds.specs.Kinds.{Kind, LOAD, LOG, STORE, ACQUIRE, LOGREL, RELEASE, FLUSH, FLUSHLOG, FENCE, PRUNE, EVICT, EVICTLOG}
+use Rattle.kinds.specs.Kinds.{EVICTCELL, EVICTWORDS}
 use Rattle.machine.specs.declared.Machine.{Machine}
 use Rattle.machine.specs.declared.Stepped.{Stepped}
 
@@ -129,6 +130,16 @@ unfoldable pub evictLogEffect : Machine → ℕ → ℕ → Stepped
 evictLogEffect machine thread slot =
     accepted 0 (withLog machine thread (evictSlotOf (logOf machine thread) slot))
 
+-- "EVICTCELL, place a cell: its seen content alone becomes kept." (document 02)
+unfoldable pub evictCellEffect : Machine → ℕ → Stepped
+evictCellEffect machine cell = accepted 0 (withCache machine (evictCellOf (machine .cache) cell))
+
+-- "EVICTWORDS, thread, place a slot, value 1 to 4: the first so many words of the live entry there become kept, in the order kind, place,
+-- value, rank. Neither makes anything firm." (document 02)
+unfoldable pub evictWordsEffect : Machine → ℕ → ℕ → ℕ → Stepped
+evictWordsEffect machine thread slot count =
+    accepted 0 (withLog machine thread (evictWordsOf (logOf machine thread) slot count))
+
 unfoldable pub effect : Machine → Kind → ℕ → ℕ → ℕ → Stepped
 effect machine LOAD thread place value = loadEffect machine thread place
 effect machine LOG thread place value = logEffect machine thread place
@@ -142,3 +153,5 @@ effect machine FENCE thread place value = fenceEffect machine thread
 effect machine PRUNE thread place value = pruneEffect machine thread
 effect machine EVICT thread place value = evictEffect machine place
 effect machine EVICTLOG thread place value = evictLogEffect machine thread place
+effect machine EVICTCELL thread place value = evictCellEffect machine place
+effect machine EVICTWORDS thread place value = evictWordsEffect machine thread place value

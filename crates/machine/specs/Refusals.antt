@@ -5,6 +5,7 @@ use Rattle.answer.specs.Refusals.{Test}
 use Rattle.log.specs.Entries.{appendTests, evictSlotTests}
 use Rattle.undo.specs.Regions.{storeTestsOn}
 use Rattle.kinds.specs.Kinds.{Kind, LOAD, LOG, STORE, ACQUIRE, LOGREL, RELEASE, FLUSH, FLUSHLOG, FENCE, PRUNE, EVICT, EVICTLOG}
+use Rattle.kinds.specs.Kinds.{EVICTCELL, EVICTWORDS}
 use Rattle.accesses.specs.Loads.{loadTestsOn}
 use Rattle.accesses.specs.Logs.{logTestsOn}
 use Rattle.locks.specs.LockSteps.{acquireTestsOn, logReleaseTestsOn, releaseTests}
@@ -35,7 +36,7 @@ logReleaseTests machine thread lock =
     logReleaseTestsOn (logOf machine thread) (lockOf machine lock) thread ++ appendTests (logOf machine thread)
 
 -- "LOAD 8. .. STORE 7, 10, 11. ACQUIRE 7, 12, 6, 5. LOGREL 7, 13, 6, 5. RELEASE 14, 11. PRUNE 15, 11, 16, 17. EVICTLOG 18. Others
--- none." Document 02: "LOG's order is 7, 8, 6, 5."
+-- none." Document 02: "LOG's order is 7, 8, 6, 5", and step 14 asks "3 for its slot, then new 19 .., then 18".
 unfoldable pub stateTests : Machine → Kind → ℕ → ℕ → List Test
 stateTests machine LOAD thread place = loadTests machine thread place
 stateTests machine LOG thread place = logTests machine thread place
@@ -49,3 +50,5 @@ stateTests machine FENCE thread place = []
 stateTests machine PRUNE thread place = pruneTests (logOf machine thread) (machine .cache) (machine .locks)
 stateTests machine EVICT thread place = []
 stateTests machine EVICTLOG thread place = evictSlotTests (logOf machine thread) place
+stateTests machine EVICTCELL thread place = []
+stateTests machine EVICTWORDS thread place = evictSlotTests (logOf machine thread) place

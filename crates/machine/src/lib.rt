@@ -18,7 +18,9 @@ use cache::Cache;
 use clocks::Clock;
 use kinds::ACQUIRE;
 use kinds::EVICT;
+use kinds::EVICTCELL;
 use kinds::EVICTLOG;
+use kinds::EVICTWORDS;
 use kinds::FENCE;
 use kinds::FLUSH;
 use kinds::FLUSHLOG;
@@ -38,6 +40,7 @@ use log::Log;
 use log::STRETCH_WORDS;
 use log::write_stretch;
 use sizes::CELLS;
+use sizes::ENTRY_WORDS;
 use sizes::LOCKS;
 use sizes::THREADS;
 use undo::SyncCount;
@@ -414,7 +417,46 @@ impl Machine {
         if answer::number(answer) == 0 {
             let at = thread as usize;
             let log = self.logs[at];
-            let changed = log.evict_slot(slot as usize);
+            let changed = log.evict_words(slot as usize, ENTRY_WORDS);
+            answer = changed.answer;
+            if answer::number(answer) == 0 {
+                let evicted = changed.log;
+                self.logs[at] = evicted;
+            }
+        }
+        Stepped {
+            answer,
+            machine: self,
+        }
+    }
+
+    // EVICTCELL: the cell's cached content alone is persisted.
+    pub fn evict_cell(mut self, cell: u64) -> Stepped
+        requires { ⌜ Reached self ⌝ }
+        ensures { λ r. ⌜ r ≡ stepOf self 13 0 cell 0 ⌝ }
+    {
+        let mut answer = input_answer(EVICTCELL, 0, cell, 0);
+        if answer::number(answer) == 0 {
+            let cache = self.cache;
+            let evicted = writeback::evict_cell(cache, cell as usize);
+            self.cache = evicted;
+        }
+        Stepped {
+            answer,
+            machine: self,
+        }
+    }
+
+    // EVICTWORDS: the first so many words of the entry in the slot become persisted.
+    pub fn evict_words(mut self, thread: u64, slot: u64, count: u64) -> Stepped
+        requires { ⌜ Reached self ⌝ }
+        ensures { λ r. ⌜ r ≡ stepOf self 14 thread slot count ⌝ }
+    {
+        let mut answer = input_answer(EVICTWORDS, thread, slot, count);
+        if answer::number(answer) == 0 {
+            let at = thread as usize;
+            let log = self.logs[at];
+            let changed = log.evict_words(slot as usize, count as usize);
             answer = changed.answer;
             if answer::number(answer) == 0 {
                 let evicted = changed.log;

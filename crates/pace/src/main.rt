@@ -1,10 +1,12 @@
-// Takes 100,800 steps of all twelve kinds, all accepted, so that a step can be timed: 100 runs of 72 rounds of 14 steps, by the four
+// Takes 100,800 steps of all fourteen kinds, all accepted, so that a step can be timed: 100 runs of 63 rounds of 16 steps, by the four
 // threads in turn. Prints the number of steps and the sum of the runs' last answers: each run ends in a PRUNE that frees 3 entries.
 ghost use mathlib.Core.Path.{_≡_};
 ghost use lib.ListN.{length};
 use kinds::ACQUIRE;
 use kinds::EVICT;
+use kinds::EVICTCELL;
 use kinds::EVICTLOG;
+use kinds::EVICTWORDS;
 use kinds::FENCE;
 use kinds::FLUSH;
 use kinds::FLUSHLOG;
@@ -17,7 +19,7 @@ use kinds::STORE;
 use sizes::CELLS;
 
 // The kinds of a round's steps.
-const KINDS: [u64; 14] = [
+const KINDS: [u64; 16] = [
     ACQUIRE,
     LOG,
     FLUSHLOG,
@@ -31,32 +33,38 @@ const KINDS: [u64; 14] = [
     RELEASE,
     EVICT,
     EVICTLOG,
+    EVICTCELL,
+    EVICTWORDS,
     PRUNE,
 ];
 
-// The place of each step of a round: lock 2, cell 5, lines 0 and 3. EVICTLOG's slot depends on the round.
-const PLACES: [u64; 14] = [2, 5, 0, 0, 5, 5, 2, 0, 0, 0, 2, 3, 0, 0];
+// The place of each step of a round: lock 2, cell 5, lines 0 and 3. The slot of EVICTLOG and EVICTWORDS depends on the round.
+const PLACES: [u64; 16] = [2, 5, 0, 0, 5, 5, 2, 0, 0, 0, 2, 3, 0, 5, 0, 0];
 
-// The thread of a round's step: EVICT has none.
+// The thread of a round's step: EVICT and EVICTCELL have none.
 fn thread_of(kind: u64, round: u64) -> u64 {
-    if kind == EVICT {
+    if kind == EVICT || kind == EVICTCELL {
         return 0;
     }
     round % 4
 }
 
-// The place of a round's step. A thread makes three entries in every fourth round, the second by its LOG, which EVICTLOG names by its slot.
+// The place of a round's step. A thread makes three entries in every fourth round, the second by its LOG, which EVICTLOG and EVICTWORDS
+// name by its slot.
 fn place_of(kind: u64, place: u64, round: u64) -> u64 {
-    if kind == EVICTLOG {
+    if kind == EVICTLOG || kind == EVICTWORDS {
         return (round / 4 % 64 * 3 + 2) % 64;
     }
     place
 }
 
-// The value of a round's step: only STORE has one.
+// The value of a round's step: only STORE and EVICTWORDS have one.
 fn value_of(kind: u64) -> u64 {
-    if kind == 3 {
+    if kind == STORE {
         return 7;
+    }
+    if kind == EVICTWORDS {
+        return 2;
     }
     0
 }
@@ -70,11 +78,11 @@ fn all_steps() -> [u64; 4032]
     let mut steps = [0u64; 4032];
     let mut taken = 0;
     while taken < 1008 {
-        let from = taken % 14;
+        let from = taken % 16;
         let to = taken * 4;
         let kind = kinds[from];
         let place = places[from];
-        let round = taken as u64 / 14;
+        let round = taken as u64 / 16;
         steps[to] = kind;
         steps[to + 1] = thread_of(kind, round);
         steps[to + 2] = place_of(kind, place, round);

@@ -1,9 +1,9 @@
 // Images that are written by hand.
 
-use log::ENTRY_WORDS;
 use log::HEADS_AT;
 use log::IMAGE_WORDS;
 use log::LOGS_AT;
+use sizes::ENTRY_WORDS;
 use sizes::SLOTS;
 use sizes::THREADS;
 

@@ -16,5 +16,8 @@ pub const LINE_CELLS: usize = 8;
 // The slots of a log.
 pub const SLOTS: usize = 64;
 
+// The words of an entry.
+pub const ENTRY_WORDS: usize = 4;
+
 // The last LSN that a log gives (document 01: rank 1,000,000).
 pub const LAST_LSN: u32 = 1000000;

@@ -10,6 +10,8 @@ pub const LINES: u64 = 16;
 
 pub const SLOTS: u64 = 64;
 
+pub const ENTRY_WORDS: u64 = 4;
+
 pub const LAST_LSN: u64 = 1000000;
 
 // The largest head: the number after the last LSN.

@@ -4,7 +4,9 @@ ghost use Rattle.machine.specs.Runs.{Reached};
 ghost use Rattle.machine.specs.Steps.{stepOf};
 use kinds::ACQUIRE;
 use kinds::EVICT;
+use kinds::EVICTCELL;
 use kinds::EVICTLOG;
+use kinds::EVICTWORDS;
 use kinds::FENCE;
 use kinds::FLUSH;
 use kinds::FLUSHLOG;
@@ -38,6 +40,8 @@ pub fn step(machine: Machine, kind: u64, thread: u64, place: u64, value: u64) ->
         PRUNE => machine.prune(thread),
         EVICT => machine.evict(place),
         EVICTLOG => machine.evict_log(thread, place),
+        EVICTCELL => machine.evict_cell(place),
+        EVICTWORDS => machine.evict_words(thread, place, value),
         _ => Stepped { answer, machine },
     }
 }

@@ -6,11 +6,11 @@ use mathlib.Core.List.{List, [], _∷_, map, flatten}
 use lib.Dec.{T, eqb, eqb→eq}
 use Rattle.answer.specs.Lists.{tab, someBelow, countBelow, setFrom, mixFrom}
 use Rattle.answer.specs.Refusals.{unless}
-use Rattle.cache.specs.Cache.{cacheOf, storeOf, flushOf, fenceOf, evictOf}
+use Rattle.cache.specs.Cache.{cacheOf, storeOf, flushOf, fenceOf, evictOf, evictCellOf}
 use Rattle.tail.specs.Tail.{freshTail, flushedTail, fencedTail, releasedTail}
 use Rattle.append.specs.Append.{grownTail, roomTests}
-use Rattle.log.specs.Entries.{wordsOf, freshLog, isLiveSlot, flushLogOf, persistSlot, persistFrom, fenceLogOf, evictSlotTests, evictSlotOf}
-use Rattle.log.specs.Entries.{dropOf, appendOf}
+use Rattle.log.specs.Entries.{wordsOf, freshLog, isLiveSlot, flushLogOf, persistWords, persistSlot, persistFrom, fenceLogOf}
+use Rattle.log.specs.Entries.{evictSlotTests, evictWordsOf, dropOf, appendOf}
 use Rattle.undo.specs.Events.{endReleaseOf, eventOf}
 use Rattle.undo.specs.Regions.{loggedAmong, loggedOf, goesOn, oldestRegion, isFinished}
 use Rattle.log.specs.Stretch.{stretchOf, holds, presentFrom, presentOf}
@@ -18,6 +18,7 @@ use Rattle.clocks.specs.Clocks.{clockAt, joinOf, raisedOf}
 use Rattle.accesses.specs.Accesses.{loadedOf, loggedCellOf}
 use Rattle.machine.specs.Effects.{loadEffect, firstLogEffect, logEffect, storeEffect, acquireEffect, logReleaseEffect, releaseEffect}
 use Rattle.machine.specs.Effects.{flushEffect, flushLogEffect, fenceEffect, pruneEffect, evictEffect, evictLogEffect, effect}
+use Rattle.machine.specs.Effects.{evictCellEffect, evictWordsEffect}
 use Rattle.machine.specs.Holds.{freshMachine, startOf}
 use Rattle.machine.specs.Image.{imageOf, cutOf}
 use Rattle.kinds.specs.Kinds.{kindOf, inputTests}
@@ -42,15 +43,16 @@ same (x ∷ xs) (y ∷ ys) = eqb x y && same xs ys
 
 -- each row gives what is asked. What stands under it is unfolded with it: each definition of the machine and of recovery that rows reach.
 unfoldable pub allGiven : List Row → Bool
-unfolding same flatten tab someBelow countBelow setFrom mixFrom unless cacheOf storeOf flushOf fenceOf evictOf freshTail grownTail
-    roomTests flushedTail fencedTail releasedTail wordsOf freshLog isLiveSlot appendOf flushLogOf endReleaseOf eventOf
-    persistSlot persistFrom fenceLogOf evictSlotTests evictSlotOf dropOf loggedAmong loggedOf goesOn oldestRegion
-    isFinished stretchOf holds presentFrom presentOf clockAt joinOf raisedOf loadedOf loggedCellOf loadEffect firstLogEffect logEffect
-    storeEffect acquireEffect logReleaseEffect releaseEffect flushEffect flushLogEffect fenceEffect pruneEffect
-    evictEffect evictLogEffect effect freshMachine startOf imageOf cutOf kindOf inputTests loadTests logTests storeTests
-    acquireTests logReleaseTests releaseTests pruneTests stateTests after answers stepOfKind stepOf isBadHead isBadEntry
-    hasBadEntry imageTests recoverTests recoverOf storedLogs hasLaterAcquire mayTakeEntry mayTake lowestFrom takeLast
-    takeNext takeMany undoStart undone hasLeft
+unfolding same flatten tab someBelow countBelow setFrom mixFrom unless cacheOf storeOf flushOf fenceOf evictOf
+    evictCellOf freshTail grownTail roomTests flushedTail fencedTail releasedTail wordsOf freshLog isLiveSlot appendOf
+    flushLogOf endReleaseOf eventOf persistWords persistSlot persistFrom fenceLogOf evictSlotTests evictWordsOf dropOf
+    loggedAmong loggedOf goesOn oldestRegion isFinished stretchOf holds presentFrom presentOf clockAt joinOf raisedOf
+    loadedOf loggedCellOf loadEffect firstLogEffect logEffect storeEffect acquireEffect logReleaseEffect releaseEffect
+    flushEffect flushLogEffect fenceEffect pruneEffect evictEffect evictLogEffect evictCellEffect evictWordsEffect
+    effect freshMachine startOf imageOf cutOf kindOf inputTests loadTests logTests storeTests acquireTests
+    logReleaseTests releaseTests pruneTests stateTests after answers stepOfKind stepOf isBadHead isBadEntry hasBadEntry
+    imageTests recoverTests recoverOf storedLogs hasLaterAcquire mayTakeEntry mayTake lowestFrom takeLast takeNext
+    takeMany undoStart undone hasLeft
 allGiven [] = true
 allGiven ((found gives asked) ∷ rows) = same found asked && allGiven rows
 

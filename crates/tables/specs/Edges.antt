@@ -1,6 +1,6 @@
--- Document 01's numbers, bounds and orders of tests, with LOG, FENCE and the next slot as document 02 has them, as a second table beside
--- that of the P points: each row stands under the words that it is read from. Where steps get to an edge only after very many, or never,
--- a row begins at a machine that is written down; images that no machine makes are written down too.
+-- Document 01's numbers, bounds and orders of tests, with LOG, FENCE, the next slot and the evictions of cells and words as document 02
+-- has them, as a second table beside that of the P points: each row stands under the words that it is read from. Where steps get to an
+-- edge only after very many, or never, a row begins at a machine that is written down; images that no machine makes are written down too.
 use Prim.Native.Nat.{ℕ, _+_, _-_}
 use mathlib.Core.Path.{_≡_}
 use mathlib.Core.Bool.{cond}
@@ -8,14 +8,16 @@ use mathlib.Core.List.{List, [], _∷_, _++_, map, flatten}
 use lib.ListN.{getD, set, take, drop, replicate}
 use Rattle.answer.specs.Answer.{numberOf, valueOf}
 use Rattle.answer.specs.Lists.{tab}
-use Rattle.answer.specs.declared.Answer.the-variants.{NoSuchKind, NoSuchThread, NoSuchPlace, UnusedField, LogFull, LsnsUsedUp, Releasing}
-use Rattle.answer.specs.declared.Answer.the-variants.{Race, NotLogged, EntryNotDurable, LockHeld, LockNotHeld, NotReleasing}
+use Rattle.answer.specs.declared.Answer.the-variants.{NoSuchKind, NoSuchThread, NoSuchPlace, UnusedField, NoSuchWordCount}
+use Rattle.answer.specs.declared.Answer.the-variants.{LogFull, LsnsUsedUp, Releasing, Race, NotLogged, EntryNotDurable}
+use Rattle.answer.specs.declared.Answer.the-variants.{LockHeld, LockNotHeld, NotReleasing}
 use Rattle.answer.specs.declared.Answer.the-variants.{NothingToPrune, EarlierReleaseNotPruned, CellNotDurable, NoLiveEntry, Unreadable}
 use Rattle.answer.specs.declared.Answer.the-variants.{WrongLength, BadHead, BadEntry, Cyclic}
 use Rattle.ring.specs.Ring.{lsn, nextSlotOf}
 use Rattle.tail.specs.declared.Releasing.the-variants.{Nothing, Lock}
 use Rattle.log.specs.Entries.{zeros, wordsOf}
 use Rattle.log.specs.Stretch.{stretchOf}
+use Rattle.log.specs.declared.Entry.{Entry}
 use Rattle.accesses.specs.Accesses.{loggedCellOf}
 use Rattle.machine.specs.Holds.{startOf, logOf, withLog, withAccesses}
 use Rattle.machine.specs.Image.{imageOf, cutOf}
@@ -24,8 +26,8 @@ use Rattle.machine.specs.declared.Machine.{Machine}
 use Rattle.recovery.specs.Recover.{recoverOf}
 use Rattle.atomicity.specs.History.{startMachine, machineAfter}
 use Rattle.tables.specs.Points.{step, LOAD, LOG, STORE, ACQUIRE, LOGREL, RELEASE, FLUSH, FLUSHLOG, FENCE, PRUNE, EVICT, EVICTLOG}
-use Rattle.tables.specs.Points.{numbered, lent, leaves, answered, outcome, recovered, withEntry, makes, tangled, Row, _gives_}
-use Rattle.tables.specs.Points.{foundOf, askedOf}
+use Rattle.tables.specs.Points.{EVICTCELL, EVICTWORDS, numbered, lent, leaves, answered, outcome, recovered, withEntry, makes}
+use Rattle.tables.specs.Points.{tangled, Row, _gives_, foundOf, askedOf}
 
 -- the machine of a start whose cell c holds c + 100, and the one after steps from there
 abbrev pub start : Machine
@@ -45,15 +47,19 @@ takes machine steps = map numberOf (answers machine steps)
 unfoldable pub given : Machine → List Step → List ℕ
 given machine steps = map valueOf (answers machine steps)
 
--- a machine whose thread has given all ranks before this one, with none of these entries live: nothing reads what else its slots hold
-unfoldable pub fromRank : ℕ → ℕ → Machine
-fromRank thread rank =
+-- a machine whose thread has given all ranks before this one, with none of these entries live, and these slots kept
+unfoldable pub fromSlots : List Entry → ℕ → ℕ → Machine
+fromSlots slots thread rank =
     withLog start thread (record {
       cached = replicate 64 zeros;
-      persisted = replicate 64 zeros;
+      persisted = slots;
       head = lsn rank;
       tail = record { next = lsn rank; durable = lsn (rank - 1); flushed = lsn (rank - 1); releasing = Nothing };
     })
+
+-- the same with untouched slots: nothing reads what else they hold
+unfoldable pub fromRank : ℕ → ℕ → Machine
+fromRank thread rank = fromSlots (replicate 64 zeros) thread rank
 
 -- "the words kind, place, value, rank"
 abbrev pub entry : ℕ → ℕ → ℕ → ℕ → List ℕ
@@ -89,8 +95,8 @@ released7 = closes7 ++ (RELEASE 3 7 ∷ [])
 -- the refusals because of the input: "First match in this order", and before those because of the state
 unfoldable pub inputRows : List Row
 inputRows =
-    -- "1: kind not 1 to 12."
-    (asks start (step 0 0 0 0 ∷ step 13 0 0 0 ∷ step 0 4 128 1 ∷ step 13 4 128 1 ∷ []) gives 1 ∷ 1 ∷ 1 ∷ 1 ∷ []) ∷
+    -- "1: kind not 1 to 12", document 02: "Refusal 1 now begins at 15"
+    (asks start (step 0 0 0 0 ∷ step 15 0 0 0 ∷ step 0 4 128 1 ∷ step 15 4 128 1 ∷ []) gives 1 ∷ 1 ∷ 1 ∷ 1 ∷ []) ∷
     -- "2: thread over 3. 3: place over 127 (LOAD, LOG, STORE), 7 (locks), 15 (lines) or 63 (EVICTLOG). 4: an unused field not 0."
     -- LOAD and LOG, and where 8 would follow
     (asks start (around 1 127) gives 0 ∷ 2 ∷ 3 ∷ 4 ∷ 2 ∷ 3 ∷ []) ∷
@@ -119,6 +125,14 @@ inputRows =
     -- EVICTLOG, and where 18 would follow
     (asks (after (fromRank 3 63) (LOG 3 5 ∷ [])) (around 12 63) gives 0 ∷ 2 ∷ 3 ∷ 4 ∷ 2 ∷ 3 ∷ []) ∷
     (asks start (around 12 63) gives 18 ∷ 2 ∷ 3 ∷ 4 ∷ 2 ∷ 3 ∷ []) ∷
+    -- EVICTCELL: "step 13 uses 2, 3 and 4, its thread unused"
+    (asks start (around 13 127) gives 4 ∷ 2 ∷ 3 ∷ 4 ∷ 2 ∷ 3 ∷ []) ∷
+    (asks start (EVICTCELL 127 ∷ step 13 1 127 0 ∷ step 13 2 127 0 ∷ EVICTCELL 128 ∷ step 13 0 127 1 ∷ []) gives 0 ∷ 4 ∷ 4 ∷ 3 ∷ 4 ∷ []) ∷
+    -- EVICTWORDS: "step 14 uses 3 for its slot, then new 19: its value not 1 to 4, then 18"
+    (asks (after (fromRank 3 63) (LOG 3 5 ∷ [])) (around 14 63) gives 19 ∷ 2 ∷ 3 ∷ 0 ∷ 2 ∷ 3 ∷ []) ∷
+    (asks start (around 14 63) gives 19 ∷ 2 ∷ 3 ∷ 18 ∷ 2 ∷ 3 ∷ []) ∷
+    (asks (after (fromRank 3 63) (LOG 3 5 ∷ [])) (tab 7 (λ count. EVICTWORDS 3 63 count)) gives 19 ∷ 0 ∷ 0 ∷ 0 ∷ 0 ∷ 19 ∷ 19 ∷ []) ∷
+    (asks start (tab 7 (λ count. EVICTWORDS 3 63 count)) gives 19 ∷ 18 ∷ 18 ∷ 18 ∷ 18 ∷ 19 ∷ 19 ∷ []) ∷
     -- "20: the program's text line is unreadable", which no step answers
     (numberOf Unreadable ∷ [] gives 20 ∷ []) ∷ []
 
@@ -143,8 +157,9 @@ stateRows =
     -- no current region, so with 7 no cell has an entry there, and a STORE always has 10 and never 11
     (asks (ran closing) (LOG 0 6 ∷ LOG 0 5 ∷ LOG 0 9 ∷ STORE 0 5 1 ∷ STORE 0 6 1 ∷ []) gives replicate 5 7) ∷
     (asks (ran closing) (ACQUIRE 0 1 ∷ ACQUIRE 0 0 ∷ LOGREL 0 0 ∷ LOGREL 0 1 ∷ []) gives replicate 4 7) ∷
-    -- LOAD, FLUSH, FLUSHLOG, FENCE, EVICT and EVICTLOG do not ask for 7, and another thread is not closing
+    -- LOAD, FLUSH, FLUSHLOG, FENCE and the evictions do not ask for 7, and another thread is not closing
     (asks (ran closing) (LOAD 0 5 ∷ FLUSH 0 0 ∷ FLUSHLOG 0 ∷ FENCE 0 ∷ EVICT 0 ∷ EVICTLOG 0 2 ∷ []) gives replicate 6 0) ∷
+    (asks (ran closing) (EVICTCELL 5 ∷ EVICTWORDS 0 2 1 ∷ []) gives 0 ∷ 0 ∷ []) ∷
     (asks (ran closing) (LOG 1 6 ∷ ACQUIRE 1 1 ∷ []) gives 0 ∷ 0 ∷ []) ∷
     -- RELEASE "14: not closing on this lock", also where 11 would follow; "11: some live entry up to .. the RELEASE entry .. isn't firm"
     (asks (ran closing) (RELEASE 0 1 ∷ RELEASE 1 0 ∷ RELEASE 0 0 ∷ []) gives 14 ∷ 14 ∷ 11 ∷ []) ∷
@@ -165,8 +180,9 @@ stateRows =
     (asks (ran (LOG 0 5 ∷ FLUSHLOG 0 ∷ LOG 0 6 ∷ FENCE 0 ∷ [])) (STORE 0 5 1 ∷ STORE 0 6 1 ∷ []) gives 0 ∷ 11 ∷ []) ∷
     (asks (ran (LOG 0 5 ∷ FLUSHLOG 0 ∷ FENCE 1 ∷ [])) (STORE 0 5 1 ∷ []) gives 11 ∷ []) ∷
     (asks (ran (LOG 0 5 ∷ FLUSHLOG 1 ∷ FENCE 0 ∷ [])) (STORE 0 5 1 ∷ []) gives 11 ∷ []) ∷
-    -- EVICTLOG: "Nothing becomes firm."
+    -- EVICTLOG: "Nothing becomes firm." EVICTWORDS: "Neither makes anything firm."
     (asks (ran (LOG 0 5 ∷ EVICTLOG 0 1 ∷ FENCE 0 ∷ [])) (STORE 0 5 1 ∷ []) gives 11 ∷ []) ∷
+    (asks (ran (LOG 0 5 ∷ EVICTWORDS 0 1 4 ∷ FENCE 0 ∷ [])) (STORE 0 5 1 ∷ []) gives 11 ∷ []) ∷
     -- "8: it would race with an earlier accepted access": a LOG with any access of another thread, a LOAD with a LOG
     (asks (ran (LOAD 0 9 ∷ LOG 0 10 ∷ [])) (LOAD 1 9 ∷ LOG 1 9 ∷ LOG 0 9 ∷ []) gives 0 ∷ 8 ∷ 0 ∷ []) ∷
     (asks (ran (LOAD 0 9 ∷ LOG 0 10 ∷ [])) (LOAD 1 10 ∷ LOG 1 10 ∷ LOAD 0 10 ∷ []) gives 8 ∷ 8 ∷ 0 ∷ []) ∷
@@ -175,7 +191,11 @@ stateRows =
     -- "18: no live entry in the slot": an entry "sits in slot rank mod 64", of its own thread's log; a pruned one is not live
     (asks ranks62 (EVICTLOG 3 61 ∷ EVICTLOG 3 62 ∷ EVICTLOG 3 63 ∷ []) gives 18 ∷ 0 ∷ 0 ∷ []) ∷
     (asks ranks62 (EVICTLOG 3 0 ∷ EVICTLOG 3 1 ∷ EVICTLOG 2 62 ∷ []) gives 0 ∷ 18 ∷ 18 ∷ []) ∷
-    (asks (ran (released7 ++ (LOG 3 5 ∷ PRUNE 3 ∷ []))) (EVICTLOG 3 3 ∷ EVICTLOG 3 4 ∷ EVICTLOG 3 5 ∷ []) gives 18 ∷ 0 ∷ 18 ∷ []) ∷ []
+    (asks (ran (released7 ++ (LOG 3 5 ∷ PRUNE 3 ∷ []))) (EVICTLOG 3 3 ∷ EVICTLOG 3 4 ∷ EVICTLOG 3 5 ∷ []) gives 18 ∷ 0 ∷ 18 ∷ []) ∷
+    (asks ranks62 (EVICTWORDS 3 61 1 ∷ EVICTWORDS 3 62 1 ∷ EVICTWORDS 3 63 4 ∷ []) gives 18 ∷ 0 ∷ 0 ∷ []) ∷
+    (asks ranks62 (EVICTWORDS 3 0 2 ∷ EVICTWORDS 3 1 2 ∷ EVICTWORDS 2 62 4 ∷ []) gives 0 ∷ 18 ∷ 18 ∷ []) ∷
+    (asks (ran (released7 ++ (LOG 3 5 ∷ PRUNE 3 ∷ []))) (EVICTWORDS 3 3 1 ∷ EVICTWORDS 3 4 1 ∷ EVICTWORDS 3 5 1 ∷ []) gives
+    18 ∷ 0 ∷ 18 ∷ []) ∷ []
 
 -- ---- PRUNE
 
@@ -411,7 +431,7 @@ givenRows =
     (0 ∷ 0 ∷ 0 ∷ 2 ∷ 0 ∷ 0 ∷ 0 ∷ 0 ∷ []) ++
     (0 ∷ 0 ∷ 0 ∷ 3 ∷ 0 ∷ 0 ∷ 1 ∷ []) ++
     (0 ∷ 0 ∷ 3 ∷ 2 ∷ 4 ∷ [])) ∷
-    (map valueOf (NoSuchKind ∷ NoSuchThread ∷ NoSuchPlace ∷ UnusedField ∷ []) gives replicate 4 0) ∷
+    (map valueOf (NoSuchKind ∷ NoSuchThread ∷ NoSuchPlace ∷ UnusedField ∷ NoSuchWordCount ∷ []) gives replicate 5 0) ∷
     (map valueOf (LogFull ∷ LsnsUsedUp ∷ Releasing ∷ Race ∷ NotLogged ∷ EntryNotDurable ∷ []) gives replicate 6 0) ∷
     (map valueOf (LockHeld ∷ LockNotHeld ∷ NotReleasing ∷ NothingToPrune ∷ []) gives replicate 4 0) ∷
     (map valueOf (EarlierReleaseNotPruned ∷ CellNotDurable ∷ NoLiveEntry ∷ []) gives replicate 3 0) ∷
@@ -444,10 +464,15 @@ keptRows =
     (keeps (FLUSH 0 1 ∷ FENCE 0 ∷ []) gives 107 ∷ 2 ∷ 3 ∷ 116 ∷ []) ∷
     (keeps (FLUSH 1 1 ∷ FENCE 1 ∷ []) gives 107 ∷ 2 ∷ 3 ∷ 116 ∷ []) ∷
     (keeps (EVICT 1 ∷ []) gives 107 ∷ 2 ∷ 3 ∷ 116 ∷ []) ∷
+    -- EVICTCELL: "its seen content alone becomes kept"
+    (keeps (EVICTCELL 8 ∷ []) gives 107 ∷ 2 ∷ 115 ∷ 116 ∷ []) ∷
+    (keeps (EVICTCELL 7 ∷ EVICTCELL 15 ∷ []) gives 1 ∷ 108 ∷ 3 ∷ 116 ∷ []) ∷
     -- STORE: "All threads' marks on its line go", and no others
     (keeps (FLUSH 0 1 ∷ FLUSH 1 1 ∷ FLUSH 0 0 ∷ FLUSH 1 2 ∷ STORE 0 8 9 ∷ FENCE 0 ∷ FENCE 1 ∷ []) gives 1 ∷ 108 ∷ 115 ∷ 4 ∷ []) ∷
-    -- EVICT: "Nothing becomes firm." FENCE: "its 8 cells are firm", of this thread's marked lines: all of lines 0, 1 and 2 have to be
+    -- EVICT: "Nothing becomes firm." EVICTCELL: "Neither makes anything firm." FENCE: "its 8 cells are firm", of this thread's marked
+    -- lines: all of lines 0, 1 and 2 have to be
     (frees (EVICT 0 ∷ EVICT 1 ∷ EVICT 2 ∷ []) gives 17 ∷ []) ∷
+    (frees (EVICTCELL 7 ∷ EVICTCELL 8 ∷ EVICTCELL 15 ∷ EVICTCELL 16 ∷ []) gives 17 ∷ []) ∷
     (frees (FLUSH 0 0 ∷ FLUSH 0 1 ∷ FENCE 0 ∷ []) gives 17 ∷ []) ∷
     (frees (FLUSH 0 1 ∷ FLUSH 0 2 ∷ FENCE 0 ∷ []) gives 17 ∷ []) ∷
     (frees (FLUSH 0 0 ∷ FLUSH 0 2 ∷ FLUSH 1 1 ∷ FENCE 0 ∷ []) gives 17 ∷ []) ∷
@@ -468,12 +493,14 @@ fenceRows =
     -- "with this thread's mark", of which a line has one at most
     (given start (FLUSH 0 1 ∷ FLUSH 1 1 ∷ FLUSH 1 2 ∷ FENCE 0 ∷ FENCE 1 ∷ FENCE 2 ∷ []) gives 0 ∷ 0 ∷ 0 ∷ 1 ∷ 2 ∷ 0 ∷ []) ∷
     (given start (FLUSH 2 1 ∷ FLUSH 2 1 ∷ FLUSH 2 2 ∷ FENCE 2 ∷ []) gives 0 ∷ 0 ∷ 0 ∷ 2 ∷ []) ∷
-    -- an EVICT leaves the mark, though what it kept is the seen content; a STORE to the line takes all threads' marks
+    -- an EVICT or EVICTCELL leaves the mark, though what it kept is the seen content; a STORE to the line takes all threads' marks
     (given (ran stored) (FLUSH 0 0 ∷ FLUSH 0 1 ∷ EVICT 1 ∷ FENCE 0 ∷ []) gives 0 ∷ 0 ∷ 0 ∷ 2 ∷ []) ∷
+    (given (ran stored) (FLUSH 0 0 ∷ FLUSH 0 1 ∷ EVICTCELL 8 ∷ FENCE 0 ∷ []) gives 0 ∷ 0 ∷ 0 ∷ 2 ∷ []) ∷
     (given (ran stored) (FLUSH 0 0 ∷ FLUSH 0 1 ∷ FLUSH 1 1 ∷ STORE 0 8 9 ∷ FENCE 0 ∷ FENCE 1 ∷ []) gives 0 ∷ 0 ∷ 0 ∷ 0 ∷ 1 ∷ 0 ∷ []) ∷
     -- "its marked entries": not those made later, nor another thread's
     (given start (LOG 0 5 ∷ FENCE 0 ∷ FLUSHLOG 0 ∷ LOG 0 6 ∷ FENCE 1 ∷ FENCE 0 ∷ []) gives 1 ∷ 0 ∷ 0 ∷ 2 ∷ 0 ∷ 1 ∷ []) ∷
-    -- "not yet firm", which an EVICTLOG leaves them
+    -- "not yet firm", which an EVICTLOG or EVICTWORDS leaves them
+    (given (ran stored) (LOG 0 9 ∷ FLUSHLOG 0 ∷ EVICTWORDS 0 5 4 ∷ FENCE 0 ∷ []) gives 5 ∷ 0 ∷ 0 ∷ 1 ∷ []) ∷
     (given (ran stored) (LOG 0 9 ∷ LOG 0 10 ∷ FLUSHLOG 0 ∷ EVICTLOG 0 5 ∷ FENCE 0 ∷ FLUSHLOG 0 ∷ FENCE 0 ∷ []) gives
     5 ∷ 6 ∷ 0 ∷ 0 ∷ 2 ∷ 0 ∷ 0 ∷ []) ∷
     -- after ranks 63 and 64, which sit in slots 63 and 0
@@ -503,6 +530,13 @@ logsUnder6 =
 unfoldable pub evicts : ℕ → Machine
 evicts slot = after (fromRank 2 63) (LOG 2 5 ∷ LOG 2 6 ∷ EVICTLOG 2 slot ∷ [])
 
+-- slots 0 to 2 of thread 2 in the image, whose ACQUIRE of rank 65 sits in slot 1 over the LOG of rank 1, after evictions of so many of its
+-- words
+unfoldable pub tears : List ℕ → List ℕ
+tears counts =
+    let old : Entry = record { kind = 1; place = 9; lsn = lsn 1; value = 109 } in
+    words 644 12 (after (fromSlots (set (replicate 64 zeros) 1 old) 2 65) (ACQUIRE 2 3 ∷ map (EVICTWORDS 2 1) counts))
+
 -- an image whose words tell in which thread's stretch they stand
 unfoldable pub striped : List ℕ
 striped = replicate 132 0 ++ replicate 256 1 ++ replicate 256 2 ++ replicate 256 3 ++ replicate 256 4
@@ -525,6 +559,13 @@ imageRows =
     -- "It sits in slot rank mod 64", and EVICTLOG keeps one slot. Thread 2's begin at word 644
     (words 644 4 (evicts 63) ++ words 896 4 (evicts 63) gives entry 0 0 0 0 ++ entry 1 5 105 63) ∷
     (words 644 4 (evicts 0) ++ words 896 4 (evicts 0) gives entry 1 6 106 64 ++ entry 0 0 0 0) ∷
+    -- EVICTWORDS: "the first so many words of the live entry there become kept, in the order kind, place, value, rank"; the others stay, and
+    -- so do words that are kept already
+    (tears [] gives entry 0 0 0 0 ++ entry 1 9 109 1 ++ entry 0 0 0 0) ∷
+    (tears (1 ∷ []) gives entry 0 0 0 0 ++ entry 2 9 109 1 ++ entry 0 0 0 0) ∷
+    (tears (2 ∷ []) gives entry 0 0 0 0 ++ entry 2 3 109 1 ++ entry 0 0 0 0) ∷
+    (tears (3 ∷ 1 ∷ []) gives entry 0 0 0 0 ++ entry 2 3 0 1 ++ entry 0 0 0 0) ∷
+    (tears (4 ∷ 2 ∷ []) gives entry 0 0 0 0 ++ entry 2 3 0 65 ++ entry 0 0 0 0) ∷
     -- "a thread's own stretch of the lent image, or an empty part for a thread over 3 or an image not 1,156 words"
     (stretchOf striped 0 ++ stretchOf striped 1 gives replicate 256 1 ++ replicate 256 2) ∷
     (stretchOf striped 2 ++ stretchOf striped 3 gives replicate 256 3 ++ replicate 256 4) ∷

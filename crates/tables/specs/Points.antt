@@ -1,20 +1,22 @@
--- Document 01's corner points P1 to P11 as one table: what the definitions give, beside what document 01 asks.
+-- Document 01's corner points P1 to P11 as one table, and document 02's torn cells and entries: what the definitions give, beside what
+-- the documents ask.
 use Prim.Native.Nat.{ℕ, _+_, _*_}
 use mathlib.Core.List.{List, [], _∷_, _++_, map}
-use lib.ListN.{getD, set, take, replicate}
+use lib.ListN.{getD, set, take, drop, replicate}
 use lib.Seq.{sets}
+use Rattle.sizes.specs.Sizes.{entryWords}
 use Rattle.answer.specs.Answer.{numberOf, valueOf}
 use Rattle.answer.specs.Lists.{tab}
 use Rattle.answer.specs.Refusals.{Outcome}
 use Rattle.cache.specs.Cache.{cellCount}
 use Rattle.ring.specs.Ring.{slotOf}
-use Rattle.log.specs.Stretch.{entryWords, imageWords, headsAt, stretchAt}
+use Rattle.log.specs.Stretch.{imageWords, headsAt, stretchAt}
 use Rattle.machine.specs.Image.{imageOf}
 use Rattle.machine.specs.Runs.{Step, answers}
 use Rattle.recovery.specs.Recover.{recoverOf}
 use Rattle.atomicity.specs.History.{startMachine, machineAfter}
 
--- a step by document 01's numbers
+-- a step by its four numbers
 abbrev pub step : ℕ → ℕ → ℕ → ℕ → Step
 step kind thread place value = record { kind = kind; thread = thread; place = place; value = value }
 
@@ -54,6 +56,12 @@ EVICT line = step 11 0 line 0
 abbrev pub EVICTLOG : ℕ → ℕ → Step
 EVICTLOG thread slot = step 12 thread slot 0
 
+abbrev pub EVICTCELL : ℕ → Step
+EVICTCELL cell = step 13 0 cell 0
+
+abbrev pub EVICTWORDS : ℕ → ℕ → ℕ → Step
+EVICTWORDS thread slot count = step 14 thread slot count
+
 -- start cells that all differ, and from 0: cell c holds c + 100
 unfoldable pub numbered : List ℕ
 numbered = tab cellCount (λ cell. cell + 100)
@@ -86,6 +94,11 @@ recovered words steps = outcome (imageOf (machineAfter words steps))
 -- what the image of a cut has for a cell
 unfoldable pub imaged : List ℕ → List Step → ℕ → List ℕ
 imaged words steps cell = getD (imageOf (machineAfter words steps)) cell 0 ∷ []
+
+-- the words that the image of a cut has for a thread's slot
+unfoldable pub slotImaged : List ℕ → List Step → ℕ → ℕ → List ℕ
+slotImaged words steps thread slot =
+    take entryWords (drop (stretchAt thread + slot * entryWords) (imageOf (machineAfter words steps)))
 
 -- an image of cells 0, with heads 1 and empty logs
 unfoldable pub emptyImage : List ℕ
@@ -123,8 +136,14 @@ tangled = withEntry (withEntry (withEntry (withEntry emptyImage 0 2 0 1 1) 0 3 1
 unfoldable pub stale : List ℕ
 stale = withEntry (set emptyImage headsAt 65) 0 1 7 1 1
 
+-- thread 0's LOG of cell 9 has rank 1 and is pruned; the next 63 entries are firm; an ACQUIRE of lock 3 has rank 65, in the same slot
+unfoldable pub overPruned : List Step
+overPruned =
+    (LOG 0 9 ∷ ACQUIRE 0 6 ∷ FLUSHLOG 0 ∷ FENCE 0 ∷ PRUNE 0 ∷ []) ++
+    tab 62 (λ cell. LOG 0 cell) ++ (FLUSHLOG 0 ∷ FENCE 0 ∷ ACQUIRE 0 3 ∷ [])
+
 infix 10 _gives_
--- what the definitions give, and what document 01 asks
+-- what the definitions give, and what the documents ask
 pub data Row : Type 0 where
   _gives_ : List ℕ → List ℕ → Row
 
@@ -167,4 +186,18 @@ table =
     -- a flushed entry is not durable before its fence: STORE 11
     (answered numbered (LOG 0 5 ∷ FLUSHLOG 0 ∷ STORE 0 5 7 ∷ []) gives 0 ∷ 0 ∷ 11 ∷ []) ∷
     -- an older entry in the head's slot is not present
-    (outcome stale gives 0 ∷ replicate cellCount 0) ∷ []
+    (outcome stale gives 0 ∷ replicate cellCount 0) ∷
+    -- P4 with the cell evicted alone, by EVICTCELL
+    (imaged numbered (logged5 ++ (STORE 0 5 7 ∷ EVICTCELL 5 ∷ [])) 5 gives 7 ∷ []) ∷
+    (recovered numbered (logged5 ++ (STORE 0 5 7 ∷ EVICTCELL 5 ∷ [])) gives 0 ∷ numbered) ∷
+    -- an evicted cell is not durable: PRUNE 17; nor is an entry of which all words were evicted: STORE 11
+    (lastAnswered nine (makes 0 4 ++ (EVICTCELL 9 ∷ [])) (PRUNE 0) gives 17 ∷ 0 ∷ []) ∷
+    (answered numbered (LOG 0 5 ∷ EVICTWORDS 0 1 4 ∷ STORE 0 5 7 ∷ []) gives 0 ∷ 0 ∷ 11 ∷ []) ∷
+    -- three words of an entry: the rank word is 0, and the entry is not present
+    (slotImaged numbered (LOG 0 5 ∷ EVICTWORDS 0 1 3 ∷ []) 0 1 gives 1 ∷ 5 ∷ 105 ∷ 0 ∷ []) ∷
+    (recovered numbered (LOG 0 5 ∷ EVICTWORDS 0 1 3 ∷ []) gives 0 ∷ numbered) ∷
+    -- three words of an entry over a pruned one: they stand under the old rank word, and the entry is not present
+    (slotImaged numbered (overPruned ++ (EVICTWORDS 0 1 3 ∷ [])) 0 1 gives 2 ∷ 3 ∷ 0 ∷ 1 ∷ []) ∷
+    (recovered numbered (overPruned ++ (EVICTWORDS 0 1 3 ∷ [])) gives 0 ∷ numbered) ∷
+    -- EVICTWORDS tests 19 before 18, and 3 before 19
+    (answered numbered (EVICTWORDS 0 1 5 ∷ EVICTWORDS 0 1 4 ∷ EVICTWORDS 0 64 5 ∷ []) gives 19 ∷ 18 ∷ 3 ∷ []) ∷ []

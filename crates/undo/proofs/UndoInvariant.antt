@@ -8,7 +8,7 @@ use borrow.Author.Tests.{eq-eqb, ne-eqb}
 use lib.Dec.{eqb}
 use Rattle.answer.proofs.RefusalLaws.{AllFail}
 use Rattle.tail.specs.Tail.{releasedTail}
-use Rattle.log.specs.Entries.{isLiveSlot, appendTests, flushLogOf, fenceLogOf, evictSlotOf, dropOf}
+use Rattle.log.specs.Entries.{isLiveSlot, appendTests, flushLogOf, fenceLogOf, evictWordsOf, dropOf}
 use Rattle.log.specs.declared.Log.{Log}
 use Rattle.log.specs.declared.Payload.{Payload}
 use Rattle.log.proofs.LogInvariant as Slots
@@ -62,8 +62,9 @@ module _ (log : Log) (events : ℕ → Event) (inv : UndoHolds log events) where
   pub fence-holds : UndoHolds (fenceLogOf log) events
   fence-holds = Slots.fence-holds log says inv
 
-  pub evict-holds : (slot : ℕ) → isLiveSlot log slot ≡ true → UndoHolds (evictSlotOf log slot) events
-  evict-holds = Slots.evict-holds log says inv
+  -- EVICTWORDS, and EVICTLOG with all words
+  pub tear-holds : (slot count : ℕ) → isLiveSlot log slot ≡ true → UndoHolds (evictWordsOf log slot count) events
+  tear-holds = Slots.tear-holds log says inv
 
   -- PRUNE of durable entries
   pub prune-holds : (count : ℕ) → log .head .0 + count ≤ log .tail .next .0 → log .head .0 + count ≤ log .tail .durable .0 + 1

@@ -26,13 +26,20 @@ pub(crate) const EVICT: u64 = 11;
 
 pub(crate) const EVICTLOG: u64 = 12;
 
-// Three more kinds to look for, which no step has that is tried: a step that makes an entry (LOG, ACQUIRE or LOGREL), a STORE to any cell
-// of the line that is the place, and a LOG that makes an entry.
+pub(crate) const EVICTCELL: u64 = 13;
+
+pub(crate) const EVICTWORDS: u64 = 14;
+
+// More kinds to look for, which no step has that is tried: a step that makes an entry (LOG, ACQUIRE or LOGREL), a STORE to any cell of the
+// line that is the place, and a LOG that makes an entry.
 pub(crate) const ENTRY: u64 = 1001;
 
 pub(crate) const STORE_IN_LINE: u64 = 1002;
 
 pub(crate) const FIRST_LOG: u64 = 1003;
+
+// And four in a row, for an entry's words kind, place, value and rank: an eviction that keeps this word of the slot that is the place.
+pub(crate) const KEPT_WORD: u64 = 1004;
 
 // Looked for as thread or place, it fits every step: no accepted step has it there.
 pub(crate) const ANY: u64 = 18446744073709551615;
@@ -112,6 +119,13 @@ fn is_entry(past: &[u64], step: usize) -> bool {
     kind == ACQUIRE || kind == LOGREL || is_first_log(past, step)
 }
 
+// The step is an eviction that keeps the word of its slot with so many words before it: an EVICTLOG keeps all four, and an EVICTWORDS the
+// first ones, as many as its value says.
+fn keeps_word(past: &[u64], step: usize, earlier: u64) -> bool {
+    let kind = kind_of(past, step);
+    kind == EVICTLOG || kind == EVICTWORDS && earlier < value_of(past, step)
+}
+
 // The step has this kind and place.
 fn is_at(past: &[u64], step: usize, kind: u64, place: u64) -> bool {
     if kind == STORE_IN_LINE {
@@ -125,6 +139,9 @@ fn is_at(past: &[u64], step: usize, kind: u64, place: u64) -> bool {
     }
     if kind == FIRST_LOG {
         return is_first_log(past, step);
+    }
+    if KEPT_WORD <= kind {
+        return keeps_word(past, step, kind - KEPT_WORD);
     }
     kind_of(past, step) == kind
 }

@@ -24,9 +24,9 @@ fn entry_value(start: &[u64], past: &[u64], entry: usize) -> u64 {
     cells::lock_count(past, place, entry) as u64
 }
 
-// One of the words kind, place, value, rank of what a slot keeps; an untouched slot holds zeros.
+// One of the words kind, place, value, rank that a slot keeps, which may be words of different entries; an untouched slot holds zeros.
 fn slot_word(start: &[u64], past: &[u64], thread: u64, slot: usize, field: usize) -> u64 {
-    let entry = logs::kept_in_slot(past, thread, slot, history::next_step(past));
+    let entry = logs::kept_in_slot(past, thread, slot, field, history::next_step(past));
     if entry == 0 {
         return 0;
     }

@@ -186,18 +186,51 @@ pub(crate) fn in_slot(past: &[u64], thread: u64, slot: usize, before: usize) -> 
     entry_after(past, thread, made - since - 1, before)
 }
 
-// The entry that is kept in the slot, and 0 where it holds none: the last one that is firm or that an EVICTLOG found there.
-pub(crate) fn kept_in_slot(past: &[u64], thread: u64, slot: usize, before: usize) -> usize {
+// The entry whose word is kept in the slot at a field (0 kind, 1 place, 2 value, 3 rank), and 0 where none is: the last one that is firm
+// or that an eviction of this word found there.
+pub(crate) fn kept_in_slot(
+    past: &[u64],
+    thread: u64,
+    slot: usize,
+    field: usize,
+    before: usize,
+) -> usize {
+    let eviction = history::KEPT_WORD + (field % 4) as u64;
     let mut until = before;
     while 1 < until {
         let entry = in_slot(past, thread, slot, until);
         if is_firm(past, thread, entry, before) {
             return entry;
         }
-        if entry < history::last(past, history::EVICTLOG, thread, slot as u64, until) {
+        if entry < history::last(past, eviction, thread, slot as u64, until) {
             return entry;
         }
         until = entry;
     }
     0
+}
+
+// The slot of an EVICTWORDS is torn: it keeps an entry's kind and not its rank. The rank is then that of an older entry, or 0.
+fn is_torn(past: &[u64], step: usize, is_over_entry: bool, before: usize) -> bool {
+    let thread = history::thread_of(past, step);
+    let slot = history::place_of(past, step) as usize;
+    let ranked = kept_in_slot(past, thread, slot, 3, before);
+    if ranked == kept_in_slot(past, thread, slot, 0, before) {
+        return false;
+    }
+    (0 < ranked) == is_over_entry
+}
+
+// Some slot is torn, over an older entry or over zeros. Only an EVICTWORDS leaves a slot so.
+pub(crate) fn has_torn(past: &[u64], is_over_entry: bool, before: usize) -> bool {
+    let mut step = before;
+    while 1 < step {
+        step -= 1;
+        if history::kind_of(past, step) == history::EVICTWORDS {
+            if is_torn(past, step, is_over_entry, before) {
+                return true;
+            }
+        }
+    }
+    false
 }

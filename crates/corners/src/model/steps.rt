@@ -19,7 +19,10 @@ fn place_count(kind: u64) -> u64 {
     if kind == history::EVICT {
         return 16;
     }
-    if kind == history::EVICTLOG {
+    if kind == history::EVICTCELL {
+        return 128;
+    }
+    if kind == history::EVICTLOG || kind == history::EVICTWORDS {
         return 64;
     }
     0
@@ -36,7 +39,7 @@ fn is_outside(kind: u64, place: u64) -> bool {
 
 // A field that the kind does not use is not 0.
 fn is_misused(kind: u64, thread: u64, place: u64, value: u64) -> bool {
-    if kind == history::STORE {
+    if kind == history::STORE || kind == history::EVICTWORDS {
         return false;
     }
     if value != 0 {
@@ -45,18 +48,19 @@ fn is_misused(kind: u64, thread: u64, place: u64, value: u64) -> bool {
     if place_count(kind) == 0 {
         return place != 0;
     }
-    if kind == history::EVICT {
+    if kind == history::EVICT || kind == history::EVICTCELL {
         return thread != 0;
     }
     false
 }
 
-// The first of 1 to 4 that refuses the step because of its input, and 0 where none does.
+// The first of 1, 2, 3, 4 and 19 that refuses the step because of its input, and 0 where none does. EVICTWORDS uses all fields: 4 never
+// takes the place of its 19.
 fn input_refusal(kind: u64, thread: u64, place: u64, value: u64) -> u64 {
     if kind < 1 {
         return 1;
     }
-    if 12 < kind {
+    if history::EVICTWORDS < kind {
         return 1;
     }
     if 3 < thread {
@@ -67,6 +71,9 @@ fn input_refusal(kind: u64, thread: u64, place: u64, value: u64) -> u64 {
     }
     if is_misused(kind, thread, place, value) {
         return 4;
+    }
+    if kind == history::EVICTWORDS && (value < 1 || 4 < value) {
+        return 19;
     }
     0
 }
@@ -209,8 +216,8 @@ fn prune_refusal(past: &[u64], thread: u64, step: usize) -> u64 {
     0
 }
 
-// EVICTLOG 18.
-fn evictlog_refusal(past: &[u64], thread: u64, slot: u64, step: usize) -> u64 {
+// EVICTLOG and EVICTWORDS 18.
+fn slot_refusal(past: &[u64], thread: u64, slot: u64, step: usize) -> u64 {
     let entry = logs::in_slot(past, thread, slot as usize, step);
     if entry == 0 || entry < logs::head(past, thread, step) {
         return 18;
@@ -242,8 +249,8 @@ fn state_refusal(past: &[u64], kind: u64, thread: u64, place: u64) -> u64 {
     if kind == history::PRUNE {
         return prune_refusal(past, thread, step);
     }
-    if kind == history::EVICTLOG {
-        return evictlog_refusal(past, thread, place, step);
+    if kind == history::EVICTLOG || kind == history::EVICTWORDS {
+        return slot_refusal(past, thread, place, step);
     }
     0
 }

@@ -80,36 +80,55 @@ slice-aggregate-named-12 c = search needs
 named-requires-12 : tie.Need-named-requires-12
 named-requires-12 c κs = search needs
 
+slice-aggregate-named-13 : tie.Need-slice-aggregate-named-13
+slice-aggregate-named-13 c = search needs
+
+named-requires-13 : tie.Need-named-requires-13
+named-requires-13 c κs = search needs
+
+slice-aggregate-named-14 : tie.Need-slice-aggregate-named-14
+slice-aggregate-named-14 c = search needs
+
+named-requires-14 : tie.Need-named-requires-14
+named-requires-14 c κs = search needs
+
 returns : tie.Need-returns
 unfolding kindNamed kindFrom names ascii
 returns c =
     let text =
     c .before .before .before .before .before .before .before .before .before .before .before .before .before .before
-    .before .before .before .before .before .before .before .before .before .before .before .args .name .now in
-    kind-from 1 (ascii "LOAD") (drop 1 names) text (c .named12 .ensures)
-    (kind-from 2 (ascii "LOG") (drop 2 names) text (c .before .before .named11 .ensures)
-    (kind-from 3 (ascii "STORE") (drop 3 names) text (c .before .before .before .before .named10 .ensures)
-    (kind-from 4 (ascii "ACQUIRE") (drop 4 names) text (c .before .before .before .before .before .before .named9 .ensures)
-    (kind-from 5 (ascii "LOGREL") (drop 5 names) text (c .before .before .before .before .before .before .before .before .named8 .ensures)
+    .before .before .before .before .before .before .before .before .before .before .before .before .before .before
+    .before .args .name .now in
+    kind-from 1 (ascii "LOAD") (drop 1 names) text (c .named14 .ensures)
+    (kind-from 2 (ascii "LOG") (drop 2 names) text (c .before .before .named13 .ensures)
+    (kind-from 3 (ascii "STORE") (drop 3 names) text (c .before .before .before .before .named12 .ensures)
+    (kind-from 4 (ascii "ACQUIRE") (drop 4 names) text (c .before .before .before .before .before .before .named11 .ensures)
+    (kind-from 5 (ascii "LOGREL") (drop 5 names) text (c .before .before .before .before .before .before .before .before .named10 .ensures)
     (kind-from 6 (ascii "RELEASE") (drop 6 names) text
-    (c .before .before .before .before .before .before .before .before .before .before .named7 .ensures)
+    (c .before .before .before .before .before .before .before .before .before .before .named9 .ensures)
     (kind-from 7 (ascii "FLUSH") (drop 7 names) text
-    (c .before .before .before .before .before .before .before .before .before .before .before .before .named6 .ensures)
+    (c .before .before .before .before .before .before .before .before .before .before .before .before .named8 .ensures)
     (kind-from 8 (ascii "FLUSHLOG") (drop 8 names) text
-    (c .before .before .before .before .before .before .before .before .before .before .before .before .before .before .named5 .ensures)
+    (c .before .before .before .before .before .before .before .before .before .before .before .before .before .before .named7 .ensures)
     (kind-from 9 (ascii "FENCE") (drop 9 names) text
     (c .before .before .before .before .before .before .before .before .before .before .before .before .before .before
-    .before .before .named4 .ensures)
+    .before .before .named6 .ensures)
     (kind-from 10 (ascii "PRUNE") (drop 10 names) text
     (c .before .before .before .before .before .before .before .before .before .before .before .before .before .before
-    .before .before .before .before .named3 .ensures)
+    .before .before .before .before .named5 .ensures)
     (kind-from 11 (ascii "EVICT") (drop 11 names) text
     (c .before .before .before .before .before .before .before .before .before .before .before .before .before .before
-    .before .before .before .before .before .before .named2 .ensures)
+    .before .before .before .before .before .before .named4 .ensures)
     (kind-from 12 (ascii "EVICTLOG") (drop 12 names) text
     (c .before .before .before .before .before .before .before .before .before .before .before .before .before .before
-    .before .before .before .before .before .before .before .before .named .ensures)
-    refl)))))))))))
+    .before .before .before .before .before .before .before .before .named3 .ensures)
+    (kind-from 13 (ascii "EVICTCELL") (drop 13 names) text
+    (c .before .before .before .before .before .before .before .before .before .before .before .before .before .before
+    .before .before .before .before .before .before .before .before .before .before .named2 .ensures)
+    (kind-from 14 (ascii "EVICTWORDS") (drop 14 names) text
+    (c .before .before .before .before .before .before .before .before .before .before .before .before .before .before
+    .before .before .before .before .before .before .before .before .before .before .before .before .named .ensures)
+    refl)))))))))))))
 
 pub kind-named-spec : {M : Type 1} → statement M
 kind-named-spec =
@@ -139,4 +158,8 @@ kind-named-spec =
     named-requires-11
     slice-aggregate-named-12
     named-requires-12
+    slice-aggregate-named-13
+    named-requires-13
+    slice-aggregate-named-14
+    named-requires-14
     returns)

@@ -10,7 +10,7 @@ abbrev Inv-loop : tie.InvT-loop
 Inv-loop report₀ place end₀ answer₀ t6 report end answer = length report ≡ length report₀
 
 abbrev μ-loop : tie.MeasureT-loop
-μ-loop report₀ place end₀ answer₀ t6 report end answer = 19 - answer
+μ-loop report₀ place end₀ answer₀ t6 report end answer = 21 - answer
 
 slice-aggregate-write : tie.Need-slice-aggregate-write Inv-loop μ-loop
 slice-aggregate-write c = search needs
@@ -32,9 +32,6 @@ loop-less c = search needs
 
 loop-again : tie.Need-loop-again Inv-loop μ-loop
 loop-again c = search needs
-
-write-number-requires-2 : tie.Need-write-number-requires-2 Inv-loop μ-loop
-write-number-requires-2 c κs = search needs
 
 slice-aggregate-write-2 : tie.Need-slice-aggregate-write-2 Inv-loop μ-loop
 slice-aggregate-write-2 c = search needs
@@ -61,7 +58,6 @@ write-answers-spec =
     add-answer
     loop-less
     loop-again
-    write-number-requires-2
     slice-aggregate-write-2
     write-requires-2
     same-length

@@ -1,4 +1,4 @@
--- `listings::write_row` is safe and ends: the table has 13 rows of 20.
+-- `listings::write_row` is safe and ends: the table has 15 rows of 21.
 use Prim.Native.Nat.{_-_, _≤_}
 use mathlib.Core.Path.{_≡_}
 use lib.ListN.{length}
@@ -7,10 +7,10 @@ use Rattle.listings.proofs.write_row.Statement.{statement}
 use Rattle.listings.proofs.write_row.Tie as tie
 
 abbrev Inv-loop : tie.InvT-loop
-Inv-loop report₀ place counts row end₀ column₀ t7 report end column = (length report ≡ length report₀) × (column ≤ 20)
+Inv-loop report₀ place counts row end₀ column₀ t7 report end column = (length report ≡ length report₀) × (column ≤ 21)
 
 abbrev μ-loop : tie.MeasureT-loop
-μ-loop report₀ place counts row end₀ column₀ t7 report end column = 20 - column
+μ-loop report₀ place counts row end₀ column₀ t7 report end column = 21 - column
 
 write-kind-requires : tie.Need-write-kind-requires Inv-loop μ-loop
 write-kind-requires c κs = search needs

@@ -10,7 +10,7 @@ abbrev Inv-loop : tie.InvT-loop
 Inv-loop report₀ place counts end₀ row₀ report end row = length report ≡ length report₀
 
 abbrev μ-loop : tie.MeasureT-loop
-μ-loop report₀ place counts end₀ row₀ report end row = 13 - row
+μ-loop report₀ place counts end₀ row₀ report end row = 15 - row
 
 write-answers-requires : tie.Need-write-answers-requires Inv-loop μ-loop
 write-answers-requires c κs = search needs

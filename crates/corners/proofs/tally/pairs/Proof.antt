@@ -5,10 +5,10 @@ use Rattle.corners.proofs.tally.pairs.Statement.{statement}
 use Rattle.corners.proofs.tally.pairs.Tie as tie
 
 abbrev Inv-loop : tie.InvT-loop
-Inv-loop met is-allowed is-met found₀ at₀ found at = at ≤ 247
+Inv-loop met is-allowed is-met found₀ at₀ found at = at ≤ 300
 
 abbrev μ-loop : tie.MeasureT-loop
-μ-loop met is-allowed is-met found₀ at₀ found at = 247 - at
+μ-loop met is-allowed is-met found₀ at₀ found at = 300 - at
 
 loop-holds : tie.Need-loop-holds Inv-loop μ-loop
 loop-holds c = search needs

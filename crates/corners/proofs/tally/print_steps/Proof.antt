@@ -5,10 +5,10 @@ use Rattle.corners.proofs.tally.print_steps.Statement.{statement}
 use Rattle.corners.proofs.tally.print_steps.Tie as tie
 
 abbrev Inv-loop : tie.InvT-loop
-Inv-loop met row₀ row = row ≤ 13
+Inv-loop met row₀ row = row ≤ 15
 
 abbrev μ-loop : tie.MeasureT-loop
-μ-loop met row₀ row = 13 - row
+μ-loop met row₀ row = 15 - row
 
 slice-aggregate-write-all : tie.Need-slice-aggregate-write-all Inv-loop μ-loop
 slice-aggregate-write-all c = search needs

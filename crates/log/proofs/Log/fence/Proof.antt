@@ -7,7 +7,7 @@ use native.Mathlib.Omega.{arith}
 use borrow.Author.Needs.{needs}
 use Rattle.ring.specs.Ring.{slotOf}
 use Rattle.tail.specs.Tail.{unfenced}
-use Rattle.log.specs.Entries.{withTail, persistSlot, persistFrom, fenceLogOf}
+use Rattle.log.specs.Entries.{withTail, persistWords, persistSlot, persistFrom, fenceLogOf}
 use Rattle.log.proofs.Log.fence.Statement.{statement}
 use Rattle.log.proofs.Log.fence.Tie as tie
 
@@ -58,7 +58,7 @@ loop-less : tie.Need-loop-less Inv-loop μ-loop
 loop-less c = search needs
 
 loop-again : tie.Need-loop-again Inv-loop μ-loop
-unfolding persistFrom persistSlot
+unfolding persistFrom persistSlot persistWords
 loop-again c =
     let l = c .before .before .before in
     let first = l .before .before .before .before .args .t1 .tail .durable .0 + 1 in

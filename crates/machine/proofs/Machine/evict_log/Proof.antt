@@ -36,8 +36,8 @@ mul-log c = omega (arith, thread-in c, slot-in c)
 element-copy-out-log : tie.Need-element-copy-out-log
 element-copy-out-log c = omega (arith, thread-in c, slot-in c)
 
-evict-slot-requires : tie.Need-evict-slot-requires
-evict-slot-requires c κs = search needs
+evict-words-requires : tie.Need-evict-words-requires
+evict-words-requires c κs = search needs
 
 number-requires-2 : tie.Need-number-requires-2
 number-requires-2 c κs = search needs
@@ -52,7 +52,7 @@ element-set-from-evicted c =
 returns : tie.Need-returns
 returns c =
     let a = c .before .before .before .before .before .before .before .before .args in
-    let done = c .before .before .before .evict-slot .ensures in
+    let done = c .before .before .before .evict-words .ensures in
     let isZero =
     ap (λ (left : Changed). numberOf (left .answer)) (sym done) ∙ (sym (c .before .before .number2 .ensures) ∙ c .before .if2 .taken) in
     rw done (evict-log-step (a .t1) (a .thread) (a .slot) (accepted (c .before .before .before .before .before)) .0 isZero)
@@ -60,7 +60,7 @@ returns c =
 returns-2 : tie.Need-returns-2
 returns-2 c =
     let a = c .before .before .before .before .before .before .before .args in
-    let done = c .before .before .evict-slot .ensures in
+    let done = c .before .before .evict-words .ensures in
     let answer = ap (λ (left : Changed). left .answer) done in
     rw answer (evict-log-step (a .t1) (a .thread) (a .slot) (accepted (c .before .before .before .before)) .1
     (λ zero. c .if2 .left (c .before .number2 .ensures ∙ (ap numberOf answer ∙ zero))))
@@ -81,7 +81,7 @@ evict-log-spec =
     number-requires
     mul-log
     element-copy-out-log
-    evict-slot-requires
+    evict-words-requires
     number-requires-2
     mul-evicted
     element-set-from-evicted

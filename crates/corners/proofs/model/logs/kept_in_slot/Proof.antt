@@ -5,10 +5,13 @@ use Rattle.corners.proofs.model.logs.kept_in_slot.Statement.{statement}
 use Rattle.corners.proofs.model.logs.kept_in_slot.Tie as tie
 
 abbrev Inv-loop : tie.InvT-loop
-Inv-loop past thread slot before until₀ until = until ≤ before
+Inv-loop past thread slot field before eviction until₀ until = until ≤ before
 
 abbrev μ-loop : tie.MeasureT-loop
-μ-loop past thread slot before until₀ until = until
+μ-loop past thread slot field before eviction until₀ until = until
+
+add-eviction : tie.Need-add-eviction Inv-loop μ-loop
+add-eviction c = search needs
 
 loop-holds : tie.Need-loop-holds Inv-loop μ-loop
 loop-holds c = search needs
@@ -43,6 +46,7 @@ kept-in-slot-spec =
     (tie.spec
     Inv-loop
     μ-loop
+    add-eviction
     loop-holds
     in-slot-requires
     is-firm-requires

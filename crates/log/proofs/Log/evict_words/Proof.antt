@@ -1,13 +1,13 @@
--- `log::Log::evict_slot` meets its contract: what `has_slot` finds of the live LSNs is what the definition asks.
+-- `log::Log::evict_words` meets its contract: what `has_slot` finds of the live LSNs is what the definition asks.
 use Prim.Native.Nat.{_<_}
 use mathlib.Core.Path.{_≡_, sym, _∙_}
 use native.Mathlib.Omega.{arith}
 use borrow.Author.Needs.{needs}
 use Rattle.answer.specs.Refusals.{unless}
-use Rattle.log.specs.Entries.{isLiveSlot, persistSlot, evictSlotTests, evictSlotOf, evictedOf}
+use Rattle.log.specs.Entries.{isLiveSlot, persistWords, evictSlotTests, evictWordsOf, evictedWordsOf}
 use Rattle.ring.proofs.Slots.{slot-of-run-low}
-use Rattle.log.proofs.Log.evict_slot.Statement.{statement}
-use Rattle.log.proofs.Log.evict_slot.Tie as tie
+use Rattle.log.proofs.Log.evict_words.Statement.{statement}
+use Rattle.log.proofs.Log.evict_words.Tie as tie
 
 found-live : (c : tie.After-has-slot)
     → isLiveSlot (c .before .before .before .before .args .t1) (c .before .before .before .before .args .slot) ≡ c .has-slot .result
@@ -32,31 +32,43 @@ mul-entry c = omega (arith, low c)
 element-copy-out-entry : tie.Need-element-copy-out-entry
 element-copy-out-entry c = low c
 
-mul-entry-2 : tie.Need-mul-entry-2
-mul-entry-2 c = omega (arith, low (c .before))
+mul-before : tie.Need-mul-before
+mul-before c = omega (arith, low (c .before))
 
-element-set-from-entry : tie.Need-element-set-from-entry
-element-set-from-entry c = low (c .before)
+element-copy-out-before : tie.Need-element-copy-out-before
+element-copy-out-before c = low (c .before)
+
+torn-requires : tie.Need-torn-requires
+torn-requires c κs = search needs
+
+mul-torn : tie.Need-mul-torn
+mul-torn c = omega (arith, low (c .before .before .before))
+
+element-set-from-torn : tie.Need-element-set-from-torn
+element-set-from-torn c = low (c .before .before .before)
 
 returns : tie.Need-returns
-unfolding evictedOf evictSlotTests evictSlotOf persistSlot unless
+unfolding evictedWordsOf evictSlotTests evictWordsOf persistWords unless
 returns c =
-    let t = c .before in
-    rw (found-live (t .before), t .if1 .taken)
+    let t = c .before .before .before in
+    rw (found-live (t .before), t .if1 .taken, c .torn .ensures)
 
 returns-2 : tie.Need-returns-2
-unfolding evictedOf evictSlotTests unless
+unfolding evictedWordsOf evictSlotTests unless
 returns-2 c = rw (found-live (c .before), c .if1 .left)
 
-pub evict-slot-spec : {M : Type 1} → statement M
-evict-slot-spec =
+pub evict-words-spec : {M : Type 1} → statement M
+evict-words-spec =
     tie.close
     (tie.spec
     live-count-requires
     has-slot-requires
     mul-entry
     element-copy-out-entry
-    mul-entry-2
-    element-set-from-entry
+    mul-before
+    element-copy-out-before
+    torn-requires
+    mul-torn
+    element-set-from-torn
     returns
     returns-2)
