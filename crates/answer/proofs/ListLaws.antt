@@ -32,6 +32,12 @@ module _ {A : Type 0} where
   getD-tab (suc n) f zero d below = refl
   getD-tab (suc n) f (suc i) d below = getD-tab n (λ k. f (suc k)) i d (le-of-suc-le-suc below)
 
+  -- a table, and its last element
+  pub tab-last : (n : ℕ) (f : ℕ → A) → tab (suc n) f ≡ tab n f ++ (f n ∷ [])
+  unfolding tab
+  tab-last zero f = refl
+  tab-last (suc n) f = ap (λ (rest : List A). f 0 ∷ rest) (tab-last n (λ i. f (suc i)))
+
   -- functions that agree at each place give the same table
   pub tab-same : (n : ℕ) (f g : ℕ → A) → ((i : ℕ) → i < n → f i ≡ g i) → tab n f ≡ tab n g
   unfolding tab

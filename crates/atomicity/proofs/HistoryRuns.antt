@@ -12,9 +12,9 @@ use Rattle.sizes.specs.Sizes.{threadCount}
 use Rattle.answer.specs.Answer.{isAccepted}
 use Rattle.answer.proofs.RefusalLaws.{AllFail, allFail-right}
 use Rattle.machine.specs.Effects.{loadEffect, firstLogEffect, storeEffect, acquireEffect, logReleaseEffect, releaseEffect, flushEffect}
-use Rattle.machine.specs.Effects.{flushLogEffect, fenceEffect, pruneEffect, evictEffect, evictLogEffect, evictCellEffect, effect}
+use Rattle.machine.specs.Effects.{flushLogEffect, fenceEffect, pruneEffect, evictLogEffect, evictCellEffect, effect}
 use Rattle.machine.specs.Effects.{evictWordsEffect}
-use Rattle.kinds.specs.Kinds.{Kind, LOAD, LOG, STORE, ACQUIRE, LOGREL, RELEASE, FLUSH, FLUSHLOG, FENCE, PRUNE, EVICT, EVICTLOG}
+use Rattle.kinds.specs.Kinds.{Kind, LOAD, LOG, STORE, ACQUIRE, LOGREL, RELEASE, FLUSH, FLUSHLOG, FENCE, PRUNE, EVICTLOG}
 use Rattle.kinds.specs.Kinds.{EVICTCELL, EVICTWORDS, kindOf, fieldsOf, isOver, countTests, inputTests}
 use Rattle.machine.specs.Refusals.{stateTests}
 use Rattle.machine.specs.Runs.{Step, stepWith, after}
@@ -36,7 +36,6 @@ kindNumber FLUSH = 7
 kindNumber FLUSHLOG = 8
 kindNumber FENCE = 9
 kindNumber PRUNE = 10
-kindNumber EVICT = 11
 kindNumber EVICTLOG = 12
 kindNumber EVICTCELL = 13
 kindNumber EVICTWORDS = 14
@@ -51,8 +50,8 @@ kind-number number kind isKind =
     (pick RELEASE
     (pick FLUSH (pick FLUSHLOG
     (pick FENCE (pick PRUNE
-    (pick EVICT (pick EVICTLOG
-    (pick EVICTCELL (pick EVICTWORDS (λ isNone. let never : _≡_ {A = ℕ} 0 1 = cc in absurd (omega arith))))))))))))))) isKind
+    (pick EVICTLOG
+    (pick EVICTCELL (pick EVICTWORDS (λ isNone. let never : _≡_ {A = ℕ} 0 1 = cc in absurd (omega arith)))))))))))))) isKind
   where
     pick : (found : Kind) {rest : Option Kind} → (rest ≡ some kind → number ≡ kindNumber kind) →
         cond (eqb number (kindNumber found)) (some found) rest ≡ some kind → number ≡ kindNumber kind
@@ -85,7 +84,7 @@ module _ (machine : Machine) (kind : Kind) (thread place value : ℕ) (fails : A
 pub effect-accepted : (machine : Machine) (kind : Kind) (thread place value : ℕ) →
     isAccepted (effect machine kind thread place value .answer) ≡ true
 unfolding effect loadEffect firstLogEffect storeEffect acquireEffect logReleaseEffect releaseEffect flushEffect
-    flushLogEffect fenceEffect pruneEffect evictEffect evictLogEffect evictCellEffect evictWordsEffect
+    flushLogEffect fenceEffect pruneEffect evictLogEffect evictCellEffect evictWordsEffect
 effect-accepted machine LOAD thread place value = refl
 effect-accepted machine LOG thread place value =
     log-cases (λ stepped. isAccepted (stepped .answer) ≡ true) machine thread place (λ isNowhere. refl) (λ number isAt. refl)
@@ -97,7 +96,6 @@ effect-accepted machine FLUSH thread place value = refl
 effect-accepted machine FLUSHLOG thread place value = refl
 effect-accepted machine FENCE thread place value = refl
 effect-accepted machine PRUNE thread place value = refl
-effect-accepted machine EVICT thread place value = refl
 effect-accepted machine EVICTLOG thread place value = refl
 effect-accepted machine EVICTCELL thread place value = refl
 effect-accepted machine EVICTWORDS thread place value = refl

@@ -1,5 +1,5 @@
 -- The steps that make no entry and move no head keep what holds of a machine and its history: refused steps, LOAD, STORE, FLUSH, FLUSHLOG,
--- FENCE, the four evictions, and LOG of a cell that has an entry already.
+-- FENCE, the three evictions, and LOG of a cell that has an entry already.
 use Prim.Native.Nat.{ℕ, suc, _-_, _≤_, _<_}
 use native.Mathlib.Decide.{ℕ-discrete}
 use native.Mathlib.Omega.{arith}
@@ -12,7 +12,7 @@ use lib.Seq.{getD-set-same, getD-set-other}
 use lib.Dec.{eqb}
 use Rattle.sizes.specs.Sizes.{threadCount, entryWords}
 use Rattle.answer.proofs.RefusalLaws.{AllFail}
-use Rattle.cache.specs.Cache.{cachedAt, persistedAt, lineOf, isPending, storeOf, flushOf, fenceOf, evictOf, evictCellOf}
+use Rattle.cache.specs.Cache.{cachedAt, persistedAt, lineOf, isPending, storeOf, flushOf, fenceOf, evictCellOf}
 use Rattle.cache.specs.declared.Cache.{Cache}
 use Rattle.cache.proofs.CacheLaws as CacheLaws
 use Rattle.log.specs.Entries.{flushLogOf, fenceLogOf, evictWordsOf}
@@ -28,14 +28,14 @@ use Rattle.log.specs.declared.Log.{Log}
 use Rattle.undo.proofs.UndoInvariant.{UndoHolds, flush-holds, fence-holds, tear-holds}
 use Rattle.undo.proofs.LoggedLaws.{logged-at}
 use Rattle.accesses.specs.Accesses.{loadedOf}
-use Rattle.machine.specs.Effects.{loadEffect, storeEffect, flushEffect, flushLogEffect, fenceEffect, evictEffect, evictLogEffect, effect}
+use Rattle.machine.specs.Effects.{loadEffect, storeEffect, flushEffect, flushLogEffect, fenceEffect, evictLogEffect, effect}
 use Rattle.machine.specs.Effects.{evictCellEffect, evictWordsEffect}
 use Rattle.machine.specs.Holds.{withLog, withCache, withAccesses}
 use Rattle.accesses.specs.declared.Accesses.{Accesses}
-use Rattle.kinds.specs.Kinds.{LOAD, LOG, STORE, FLUSH, FLUSHLOG, FENCE, EVICT, EVICTLOG, EVICTCELL, EVICTWORDS}
+use Rattle.kinds.specs.Kinds.{LOAD, LOG, STORE, FLUSH, FLUSHLOG, FENCE, EVICTLOG, EVICTCELL, EVICTWORDS}
 use Rattle.machine.specs.declared.Machine.{Machine}
 use Rattle.machine.proofs.AcceptedMeans.{load-asked, log-asked, store-asked, flush-asked, flush-log-asked, fence-asked}
-use Rattle.machine.proofs.AcceptedMeans.{SlotAsked, evict-asked, evict-log-asked, evict-cell-asked, evict-words-asked}
+use Rattle.machine.proofs.AcceptedMeans.{SlotAsked, evict-log-asked, evict-cell-asked, evict-words-asked}
 use Rattle.machine.proofs.Sizes.{Sized, effect-sized}
 use Rattle.machine.proofs.StepLaws.{testsOf}
 use Rattle.atomicity.specs.History.{Fed}
@@ -232,23 +232,6 @@ module _ {start : Beginning} {machine : Machine} {history : List Fed} {ghost : G
         (cache-cells cache cached
         (λ cell. kept-or-same (isEvicted cell) (cachedAt (machine .cache) cell) (persistedAt (machine .cache) cell) (persisted cell))
         machine (same-view (entriesOf start machine ghost) (length history)) (λ other. refl))
-
-    pub machine-evict : AllFail (testsOf machine EVICT thread place value) →
-        MachineInvariant start (effect machine EVICT thread place value .machine)
-        (andThen history (tookStep EVICT thread place value)) ghost
-    unfolding effect evictEffect
-    machine-evict fails =
-        cells-evicted
-        11
-        (omega arith)
-        (evict-asked machine thread place value fails .0)
-        (evictOf (machine .cache) place)
-        (effect-sized machine (machineHolds .sized) EVICT thread place value fails)
-        (CacheLaws.evictOf-sized (machine .cache) (machineHolds .cacheSized) place)
-        (CacheLaws.evictOf-kept (machine .cache) (machineHolds .cacheSized) place (machineHolds .durableKept))
-        (CacheLaws.evictOf-cached (machine .cache) (machineHolds .cacheSized) place)
-        (λ cell. eqb (lineOf cell) place)
-        (CacheLaws.evictOf-persisted (machine .cache) (machineHolds .cacheSized) place)
 
     pub machine-evict-cell : AllFail (testsOf machine EVICTCELL thread place value) →
         MachineInvariant start (effect machine EVICTCELL thread place value .machine)

@@ -22,8 +22,8 @@ use Rattle.undo.specs.declared.Found.the-variants.{Nowhere, At}
 use Rattle.ring.specs.declared.Lsn.{Lsn}
 use Rattle.accesses.specs.Accesses.{loadedOf, loggedCellOf}
 use Rattle.machine.specs.Effects.{loadEffect, firstLogEffect, storeEffect, acquireEffect, logReleaseEffect, releaseEffect, flushEffect}
-use Rattle.machine.specs.Effects.{flushLogEffect, fenceEffect, evictEffect, evictLogEffect, evictCellEffect, evictWordsEffect, effect}
-use Rattle.kinds.specs.Kinds.{Kind, LOAD, LOG, STORE, ACQUIRE, LOGREL, RELEASE, FLUSH, FLUSHLOG, FENCE, PRUNE, EVICT, EVICTLOG}
+use Rattle.machine.specs.Effects.{flushLogEffect, fenceEffect, evictLogEffect, evictCellEffect, evictWordsEffect, effect}
+use Rattle.kinds.specs.Kinds.{Kind, LOAD, LOG, STORE, ACQUIRE, LOGREL, RELEASE, FLUSH, FLUSHLOG, FENCE, PRUNE, EVICTLOG}
 use Rattle.kinds.specs.Kinds.{EVICTCELL, EVICTWORDS}
 use Rattle.machine.specs.declared.Machine.{Machine}
 use Rattle.machine.proofs.AcceptedMeans.{log-asked, acquire-asked, log-release-asked, release-asked, flush-log-asked, fence-asked}
@@ -47,7 +47,7 @@ use Rattle.atomicity.proofs.StepsFollow.{effect-follows, refused-follow
 use Rattle.atomicity.proofs.LogViews.{logAt, same-view}
 use Rattle.atomicity.proofs.MachineInvariant.{Beginning, Ghost, MachineInvariant, entriesOf, contentsOf, last-kept}
 use Rattle.atomicity.proofs.QuietStepsKeep.{EntriesStay, log-stays, logs-stay, machine-refused, machine-load, machine-flush}
-use Rattle.atomicity.proofs.QuietStepsKeep.{machine-evict, machine-evict-cell, machine-flush-log, machine-fence, machine-evict-log}
+use Rattle.atomicity.proofs.QuietStepsKeep.{machine-evict-cell, machine-flush-log, machine-fence, machine-evict-log}
 use Rattle.atomicity.proofs.QuietStepsKeep.{machine-evict-words, stored-entry, stores-cell, storedVersions, machine-store}
 use Rattle.atomicity.proofs.QuietStepsKeep.{logged-entry, logged-now, machine-log-again}
 use Rattle.atomicity.proofs.AppendsKeep.{appends, acquireEntry, releaseEntry, storeEntry, ghostThen, machine-acquire}
@@ -215,10 +215,6 @@ module _ {start : Beginning} {machine : Machine} {history : List Fed} (runHolds 
     run-flush : Kept FLUSH
     unfolding effect flushEffect feed feedAccepted joins
     run-flush fails = run-still FLUSH fails (machine-flush (runHolds .machineHolds) thread place value fails) refl refl refl
-
-    run-evict : Kept EVICT
-    unfolding effect evictEffect feed feedAccepted joins
-    run-evict fails = run-still EVICT fails (machine-evict (runHolds .machineHolds) thread place value fails) refl refl refl
 
     run-evict-cell : Kept EVICTCELL
     unfolding effect evictCellEffect feed feedAccepted joins
@@ -519,7 +515,6 @@ module _ {start : Beginning} {machine : Machine} {history : List Fed} (runHolds 
   run-effect FLUSHLOG thread place value fails = run-flush-log thread place value fails
   run-effect FENCE thread place value fails = run-fence thread place value fails
   run-effect PRUNE thread place value fails = run-prune thread place value fails
-  run-effect EVICT thread place value fails = run-evict thread place value fails
   run-effect EVICTLOG thread place value fails = run-evict-log thread place value fails
   run-effect EVICTCELL thread place value fails = run-evict-cell thread place value fails
   run-effect EVICTWORDS thread place value fails = run-evict-words thread place value fails

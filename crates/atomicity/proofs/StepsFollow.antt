@@ -23,9 +23,9 @@ use Rattle.ring.specs.declared.Lsn.{Lsn}
 use Rattle.clocks.specs.Clocks.{noClock, startClocks}
 use Rattle.accesses.specs.Accesses.{loggedCellOf}
 use Rattle.machine.specs.Effects.{loadEffect, firstLogEffect, storeEffect, acquireEffect, logReleaseEffect, releaseEffect, flushEffect}
-use Rattle.machine.specs.Effects.{flushLogEffect, fenceEffect, pruneEffect, countPruned, evictEffect, evictLogEffect, effect}
+use Rattle.machine.specs.Effects.{flushLogEffect, fenceEffect, pruneEffect, countPruned, evictLogEffect, effect}
 use Rattle.machine.specs.Effects.{evictCellEffect, evictWordsEffect}
-use Rattle.kinds.specs.Kinds.{Kind, LOAD, LOG, STORE, ACQUIRE, LOGREL, RELEASE, FLUSH, FLUSHLOG, FENCE, PRUNE, EVICT, EVICTLOG}
+use Rattle.kinds.specs.Kinds.{Kind, LOAD, LOG, STORE, ACQUIRE, LOGREL, RELEASE, FLUSH, FLUSHLOG, FENCE, PRUNE, EVICTLOG}
 use Rattle.kinds.specs.Kinds.{EVICTCELL, EVICTWORDS}
 use Rattle.machine.specs.Holds.{logOf, lockOf, clockOf, withLog}
 use Rattle.machine.specs.Refusals.{acquireTests, logReleaseTests, stateTests}
@@ -172,10 +172,6 @@ module _ (machine : Machine) (history : List Fed) (follows : Follows machine his
     flush-kept : Kept FLUSH
     unfolding effect flushEffect
     flush-kept = plain-kept FLUSH (omega arith) refl refl refl (λ isThread fails. follows .held)
-
-    evict-kept : Kept EVICT
-    unfolding effect evictEffect
-    evict-kept = plain-kept EVICT (omega arith) refl refl refl (λ isThread fails. follows .held)
 
     evictCell-kept : Kept EVICTCELL
     unfolding effect evictCellEffect
@@ -397,7 +393,6 @@ module _ (machine : Machine) (history : List Fed) (follows : Follows machine his
   effect-follows logsNow FLUSHLOG thread place value fails = flushLog-kept thread place value fails
   effect-follows logsNow FENCE thread place value fails = fence-kept thread place value fails
   effect-follows logsNow PRUNE thread place value fails = prune-kept thread place value fails
-  effect-follows logsNow EVICT thread place value fails = evict-kept thread place value fails
   effect-follows logsNow EVICTLOG thread place value fails = evictLog-kept thread place value fails
   effect-follows logsNow EVICTCELL thread place value fails = evictCell-kept thread place value fails
   effect-follows logsNow EVICTWORDS thread place value fails = evictWords-kept thread place value fails

@@ -339,7 +339,7 @@ module _ (cache : Cache) (sized : Sized cache) where
         evicted-kept cache (evictCellOf cache cell) was (λ other. eqb other cell) evictCellOf-cached evictCellOf-persisted
         evictCellOf-durable
 
-  -- ---- an eviction of a line
+  -- ---- an eviction of a line, as the retired step made it
 
   module _ (line : ℕ) where
     pub evictOf-sized : Sized (evictOf cache line)
@@ -350,20 +350,6 @@ module _ (cache : Cache) (sized : Sized cache) where
       durable-long = sized .durable-long;
       pending-long = sized .pending-long;
     }
-
-    pub evictOf-cached : (cell : ℕ) → cachedAt (evictOf cache line) cell ≡ cachedAt cache cell
-    unfolding evictOf
-    evictOf-cached cell = refl
-
-    pub evictOf-persisted : (cell : ℕ) →
-        persistedAt (evictOf cache line) cell ≡ cond (eqb (lineOf cell) line) (cachedAt cache cell) (persistedAt cache cell)
-    unfolding evictOf
-    evictOf-persisted cell =
-        getD-mixFrom (λ k. eqb (lineOf k) line) (cache .cached) (cache .persisted) cell 0 (sized .cached-long ∙ sym (sized .persisted-long))
-
-    pub evictOf-durable : (cell : ℕ) → isDurable (evictOf cache line) cell ≡ isDurable cache cell
-    unfolding evictOf
-    evictOf-durable cell = refl
 
     -- a line that is out of range changes nothing
     pub evictOf-out : lineCount ≤ line → evictOf cache line ≡ cache
@@ -376,10 +362,6 @@ module _ (cache : Cache) (sized : Sized cache) where
       durable = cache .durable;
       pending = cache .pending;
     }
-
-    pub evictOf-kept : DurableKept cache → DurableKept (evictOf cache line)
-    evictOf-kept was =
-        evicted-kept cache (evictOf cache line) was (λ cell. eqb (lineOf cell) line) evictOf-cached evictOf-persisted evictOf-durable
 
     as-long : length (cache .cached) ≡ length (cache .persisted)
     as-long = sized .cached-long ∙ sym (sized .persisted-long)

@@ -83,7 +83,8 @@ fenceOf cache thread = record {
   pending = setFrom (λ place. eqb (place / lineCount) thread) false 0 (cache .pending);
 }
 
--- EVICT: "seen content becomes kept. Nothing becomes firm."
+-- the retired step 11, of a line: "seen content becomes kept. Nothing becomes firm." No step does this now; that eight EVICTCELL steps
+-- come to the same is a claim of the crate laws
 unfoldable pub evictOf : Cache → ℕ → Cache
 evictOf cache line = record {
   cached = cache .cached;

@@ -59,7 +59,7 @@ pub(crate) fn next(seed: u64) -> u64 {
 
 // A kind of step, some more often than others.
 fn kind_of(chance: u64) -> u64 {
-    let kinds = [1u64, 2, 2, 12, 3, 3, 12, 4, 5, 6, 7, 8, 9, 10, 11, 13, 14];
+    let kinds = [1u64, 2, 2, 12, 3, 3, 12, 4, 5, 6, 7, 8, 9, 10, 13, 13, 14];
     let at = (chance % 17) as usize;
     kinds[at]
 }
@@ -69,7 +69,7 @@ fn place_of(kind: u64, chance: u64) -> u64 {
     if kind < 4 || kind == 13 {
         return chance % 2 * 8 + chance / 2 % 2;
     }
-    if kind < 8 || kind == 11 {
+    if kind < 8 {
         return chance % 2;
     }
     if kind == 12 || kind == 14 {
@@ -90,7 +90,7 @@ fn value_of(kind: u64, chance: u64) -> u64 {
 
 // A thread for a kind.
 fn thread_of(kind: u64, chance: u64) -> u64 {
-    if kind == 11 || kind == 13 {
+    if kind == 13 {
         return 0;
     }
     chance % 4
@@ -111,7 +111,7 @@ fn any_step(chance: u64) -> Step {
 
 // The last number that a step of the kind can have as place.
 fn last_place(kind: u64) -> u64 {
-    let last = [0u64, 127, 127, 127, 7, 7, 7, 15, 0, 0, 0, 15, 63, 127, 63];
+    let last = [0u64, 127, 127, 127, 7, 7, 7, 15, 0, 0, 0, 0, 63, 127, 63];
     let at = (kind % 15) as usize;
     last[at]
 }
@@ -162,7 +162,7 @@ fn spoiled(mut step: Step, chance: u64) -> Step {
     step
 }
 
-// A step of any kind, each as often as the others.
+// A step of any number from 1 to 14, each as often as the others; 11 is no kind's.
 fn even_step(chance: u64) -> Step {
     let kind = chance / 7 % 14 + 1;
     let second = next(chance);

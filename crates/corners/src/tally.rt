@@ -4,13 +4,13 @@ use crate::model::history;
 // The answers to steps, 0 to 19.
 const ANSWERS: usize = 20;
 
-// The rows of kinds: 14, and "other".
+// The rows of kinds: those of the numbers 1 to 14, of which 11 is no kind's, and "other".
 const ROWS: usize = 15;
 
 // Where the answers of recovery begin: those to images of cuts, then those to damaged images, five each.
 const RECOVERED: usize = 300;
 
-// The counts: of 15 kinds, "other" among them, times 20 answers; of twice five answers of recovery; of LOGs that a full log would refuse
+// The counts: of 15 rows times 20 answers; of twice five answers of recovery; of LOGs that a full log would refuse
 // too; three of accepted LOGs of a cell with an entry in the current region; four of accepted FENCEs; four of accepted EVICTWORDS; two of
 // cuts with a torn entry; and of EVICTCELLs.
 pub(crate) const COUNTS: usize = 325;
@@ -48,7 +48,7 @@ fn count(met: &[u64; COUNTS], at: usize) -> u64 {
     if at < COUNTS { met[at] } else { 0 }
 }
 
-// A kind's row in the table: 0 to 13 for the kinds 1 to 14, and 14 for any other.
+// A kind's row in the table: 0 to 13 for the numbers 1 to 14, and 14 for any other.
 fn row_of(kind: u64) -> usize {
     if kind < 1 {
         return 14;
@@ -152,9 +152,9 @@ fn state_can_refuse(kind: u64, answer: u64) -> bool {
     (kind == history::EVICTLOG || kind == history::EVICTWORDS) && answer == 18
 }
 
-// The documents let a step of the kind be answered so; 15 stands for any kind that is none.
+// The documents let a step of the kind be answered so; 15 stands for any number but 11 that is no kind's.
 fn can_answer(kind: u64, answer: u64) -> bool {
-    if history::EVICTWORDS < kind {
+    if kind == history::RETIRED || history::EVICTWORDS < kind {
         return answer == 1;
     }
     if answer == 3 {
@@ -235,7 +235,7 @@ fn print_name(row: usize) {
         );
     } else {
         print_part(
-            b"FLUSHLOG  FENCE     PRUNE     EVICT     EVICTLOG  EVICTCELL EVICTWORDSother     ",
+            b"FLUSHLOG  FENCE     PRUNE     11        EVICTLOG  EVICTCELL EVICTWORDSother     ",
             (row - 7) % 8 * 10,
         );
     }

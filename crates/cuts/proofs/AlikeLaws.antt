@@ -1,7 +1,7 @@
 -- All choices at a cut recover to the same cells; so trying them all finds every one alike.
 use Prim.Native.Nat.{ℕ}
 use mathlib.Core.Path.{_≡_, refl, sym, ap, ap₂, _∙_}
-use mathlib.Core.List.{List, [], _∷_, _++_}
+use mathlib.Core.List.{List, [], _++_, flatten}
 use native.Mathlib.Omega.{arith}
 use lib.ListN.{length, take, replicate, length-replicate, length-map}
 use lib.Seq.{take-all}
@@ -12,8 +12,9 @@ use Rattle.answer.specs.declared.Answer.the-variants.{Accepted}
 use Rattle.cache.specs.Cache.{cellCount, lineCount, lineOf}
 use Rattle.log.specs.Stretch.{imageWords}
 use Rattle.machine.specs.Image.{imageOf, cutOf}
-use Rattle.machine.specs.Runs.{Step, stepWith, after, Reached}
+use Rattle.machine.specs.Runs.{Step, after, evictAll, Reached}
 use Rattle.machine.specs.declared.Machine.{Machine}
+use Rattle.machine.proofs.Reaching.{after-append}
 use Rattle.buffer.specs.Buffers.{written, placeAfter}
 use Rattle.print.specs.Printed.{cutLineText}
 use Rattle.listing.specs.Transcript.{recoveredCells}
@@ -32,17 +33,12 @@ use Rattle.choices.proofs.ChoiceLaws.{lowest-same}
 use Rattle.choices.proofs.MixtureLaws.{all-found}
 use Rattle.cuts.specs.Tried.{triedLines, recoveredBy, tried, AllAlike}
 use Rattle.cuts.specs.Cuts.{notZero, cutText}
-use Rattle.cuts.proofs.EvictedImage.{seenImage, seen-cells, kept-cells, same-logs, kept-long, seen-long, evicted-image}
+use Rattle.cuts.proofs.EvictedImage.{seenImage, lines-seen, seen-cells, kept-cells, same-logs, kept-long, seen-long}
+use Rattle.cuts.proofs.EvictedImage.{evicted-image}
 
 -- a buffer of zeros for the cells
 abbrev zeros : List ℕ
 zeros = replicate cellCount 0
-
--- a list of steps after another
-after-append : (machine : Machine) (steps others : List Step) → after machine (steps ++ others) ≡ after (after machine steps) others
-unfolding after
-after-append machine [] others = refl
-after-append machine (step ∷ steps) others = after-append (stepWith machine step .machine) steps others
 
 module _ (machine : Machine) (reached : Reached machine) where
   -- every choice, of any lines, finds the cells of the reference model
@@ -80,7 +76,7 @@ module _ (machine : Machine) (reached : Reached machine) where
   keptCells = recoveredCells machine
 
   abbrev pub seenCells : List ℕ
-  seenCells = recoveredCells (after machine (evictions (tab lineCount (λ line. line))))
+  seenCells = recoveredCells (after machine evictAll)
 
   all-128 : length (cellsOf (bookAfter (reached .words) (reached .steps))) ≡ cellCount
   all-128 =
@@ -91,12 +87,12 @@ module _ (machine : Machine) (reached : Reached machine) where
   found-long lines = ap (λ (outcome : Outcome). length (outcome .buffer)) (finds machine reached lines) ∙ all-128
 
   kept-found : keptCells ≡ recoveredBy machine [] .buffer
-  unfolding recoveredCells recoveredBy after evictions
+  unfolding recoveredCells recoveredBy after evictions flatten
   kept-found = refl
 
   seen-found : seenCells ≡ recoveredBy machine (tab lineCount (λ line. line)) .buffer
   unfolding recoveredCells recoveredBy
-  seen-found = refl
+  seen-found = ap (λ (image : List ℕ). recoverOf image zeros .buffer) (sym (lines-seen machine reached))
 
   as-long : length seenCells ≡ length keptCells
   as-long = (ap length seen-found ∙ found-long (tab lineCount (λ line. line))) ∙ sym (ap length kept-found ∙ found-long [])
@@ -115,7 +111,7 @@ module _ (machine : Machine) (reached : Reached machine) where
   mixture-same lines =
       sym (choice-mixes lines) ∙ (ap (λ (outcome : Outcome). outcome .buffer) (all-alike machine reached lines .0) ∙ sym kept-found)
 
-  -- the images with every line evicted and with none differ in the lines whose seen and kept contents differ
+  -- the images with every cell evicted and with none differ in the lines whose seen and kept contents differ
   lines-tried : lowestLines (seenImage machine reached) (imageOf machine) ≡ triedLines machine
   lines-tried =
       lowest-same (seenImage machine reached) (imageOf machine) (machine .cache .cached) (machine .cache .persisted)
@@ -133,12 +129,11 @@ module _ (machine : Machine) (reached : Reached machine) where
 -- ---- what is written of a cut
 
 -- what the calls leave, put together: two cuts, two recoveries, the choices that are alike, the cells that are not 0, and the line of them
-pub cut-found : (machine evicted : Machine) (number place : ℕ) (old : List ℕ) {image seen kept others new : List ℕ}
+pub cut-found : (machine : Machine) (number place : ℕ) (old : List ℕ) {image seen kept others new : List ℕ}
     {choices differ end : ℕ} {a b c d : Answer}
     → Reached machine
     → _≡_ {A = Outcome} (record { answer = a; buffer = image }) (cutOf machine (replicate imageWords 0))
-    → evicted ≡ after machine (evictions (tab lineCount (λ line. line)))
-    → _≡_ {A = Outcome} (record { answer = b; buffer = seen }) (cutOf evicted (replicate imageWords 0))
+    → _≡_ {A = Outcome} (record { answer = b; buffer = seen }) (cutOf (after machine evictAll) (replicate imageWords 0))
     → _≡_ {A = Outcome} (record { answer = c; buffer = kept }) (recoverOf image zeros)
     → _≡_ {A = Outcome} (record { answer = d; buffer = others }) (recoverOf seen zeros)
     → choices ≡ alikeChoices seen image others kept
@@ -146,12 +141,12 @@ pub cut-found : (machine evicted : Machine) (number place : ℕ) (old : List ℕ
     → Put old place (cutLineText number choices differ) end new
     → Put old place (cutText number machine) end new
 unfolding cutText
-cut-found machine evicted number place old {image} {seen} {kept} {others} {choices = choices} {differ = differ} reached cut isEvicted
-    cutSeen recovered recoveredSeen choicesAre differAre put =
+cut-found machine number place old {image} {seen} {kept} {others} {choices = choices} {differ = differ} reached cut cutSeen recovered
+    recoveredSeen choicesAre differAre put =
     let isImage : image ≡ imageOf machine = cut-image machine cut in
-    let isSeen : seen ≡ seenImage machine reached = cut-image evicted cutSeen ∙ ap imageOf isEvicted in
+    let isSeen : seen ≡ seenImage machine reached = cut-image (after machine evictAll) cutSeen in
     let isKept : kept ≡ keptCells machine reached = recovered-are machine cut recovered in
-    let areSeen : others ≡ seenCells machine reached = recovered-are evicted cutSeen recoveredSeen ∙ ap recoveredCells isEvicted in
+    let areSeen : others ≡ seenCells machine reached = recovered-are (after machine evictAll) cutSeen recoveredSeen in
     let text : cutLineText number choices differ ≡ cutText number machine =
     ap₂ (λ (choices differ : ℕ). cutLineText number choices differ)
     (choicesAre ∙

@@ -1,19 +1,15 @@
 -- Images of a machine with lines evicted: each has the seen cells in those lines, the kept ones in the others, and the same logs. So the
--- image of every choice is a mixture of two: the one with nothing evicted, and the one with every line evicted.
+-- image of every choice is a mixture of two: the one with nothing evicted, and the one with every cell evicted.
 use Prim.Native.Nat.{ℕ, zero, suc, _+_, _<_, _/_}
-use mathlib.Core.Path.{_≡_, refl, sym, ap, ap₂, _∙_, subst⁻¹}
+use mathlib.Core.Path.{_≡_, refl, sym, ap, ap₂, _∙_}
 use mathlib.Core.Bool.{Bool, true, false, cond, _||_}
-use mathlib.Core.List.{List, [], _∷_, _++_, map, flatten, map-append}
-use mathlib.Core.Logic.{by-cases}
-use native.Mathlib.Decide.{decLt}
-use native.Mathlib.Numerals.{add-one}
+use mathlib.Core.List.{List, [], _∷_, _++_, map, flatten}
 use native.Mathlib.Omega.{arith}
-use borrow.Author.Tests.{lt-ltb, le-ltb, eq-eqb}
+use borrow.Author.Tests.{eq-eqb}
 use lib.ListN.{length, getD, take, drop, length-append}
 use lib.Seq.{ext-getD, take-append-seam, drop-append-seam}
 use lib.Dec.{eqb}
 use Rattle.answer.specs.Lists.{tab, mixFrom}
-use Rattle.answer.specs.Refusals.{unless}
 use Rattle.answer.proofs.ListLaws.{length-mixFrom, getD-mixFrom, mixFrom-none}
 use Rattle.cache.specs.Cache.{cellCount, lineCount, lineOf, evictOf}
 use Rattle.cache.specs.declared.Cache.{Cache}
@@ -21,19 +17,16 @@ use Rattle.cache.proofs.CacheLaws as CacheLaws
 use Rattle.cache.proofs.CacheLaws.{withPersisted}
 use Rattle.log.specs.Entries.{wordsOf}
 use Rattle.log.specs.Stretch.{headsAt, imageWords}
-use Rattle.kinds.specs.Kinds.{kindOf, inputTests}
-use Rattle.machine.specs.Effects.{effect, evictEffect}
 use Rattle.machine.specs.Holds.{withCache}
 use Rattle.machine.specs.Image.{imageOf}
-use Rattle.machine.specs.Refusals.{stateTests}
-use Rattle.machine.specs.Runs.{Step, stepWith, after, Reached}
-use Rattle.machine.specs.Steps.{stepOfKind, stepOf}
+use Rattle.machine.specs.Runs.{after, evictSteps, evictAll, Reached}
 use Rattle.machine.specs.declared.Machine.{Machine}
+use Rattle.machine.proofs.Evictions.{all-evicted}
 use Rattle.machine.proofs.ImageWritten.{reads}
-use Rattle.machine.proofs.Reaching.{after-then, step-reached}
+use Rattle.machine.proofs.Reaching.{after-append}
 use Rattle.recovery.proofs.MixLaws.{mixedImage}
-use Rattle.atomicity.proofs.RunInvariantHolds.{after-run}
 use Rattle.laws.specs.AnyEviction.{evictions}
+use Rattle.laws.proofs.RetiredEvictHolds.{cache-sized, line-evicted}
 use Rattle.choices.specs.Counting.{isIn}
 
 -- ---- evictions
@@ -41,16 +34,6 @@ use Rattle.choices.specs.Counting.{isIn}
 -- the cells of some lines have their seen content kept
 abbrev evicted : Cache → List ℕ → Cache
 evicted cache lines = withPersisted cache (mixFrom (λ cell. isIn (lineOf cell) lines) 0 (cache .cached) (cache .persisted))
-
--- a step 11 of any line: one that is out of range is refused, and would evict nothing
-step-evicts : (machine : Machine) (line : ℕ) → CacheLaws.Sized (machine .cache) →
-    stepOf machine 11 0 line 0 .machine ≡ withCache machine (evictOf (machine .cache) line)
-unfolding stepOf stepOfKind kindOf inputTests stateTests unless effect evictEffect
-step-evicts machine line sized =
-    by-cases (decLt line lineCount)
-    (λ below. rw (lt-ltb line lineCount below))
-    (λ past. rw (le-ltb line lineCount (omega arith))
-    (ap (withCache machine) (sym (CacheLaws.evictOf-out (machine .cache) sized line (omega arith)))))
 
 -- a choice by the later lines, or else by the first one, is a choice by either
 either : (isLater isFirst : Bool) (new old : ℕ) → cond isLater new (cond isFirst new old) ≡ cond (isFirst || isLater) new old
@@ -94,50 +77,17 @@ module _ (cache : Cache) (line : ℕ) (lines : List ℕ) (sized : CacheLaws.Size
 -- the machine after the evictions of any lines
 pub after-evictions : (machine : Machine) (lines : List ℕ) → CacheLaws.Sized (machine .cache) →
     after machine (evictions lines) ≡ withCache machine (evicted (machine .cache) lines)
-unfolding after evictions isIn
+unfolding after evictions isIn flatten
 after-evictions machine [] sized =
     ap (λ (kept : List ℕ). withCache machine (withPersisted (machine .cache) kept))
     (sym (mixFrom-none (λ cell. false) (machine .cache .cached) (machine .cache .persisted) (λ i below. refl)))
 after-evictions machine (line ∷ lines) sized =
-    ap (λ (next : Machine). after next (evictions lines)) (step-evicts machine line sized) ∙
+    after-append machine (evictSteps line) (evictions lines) ∙
+    (ap (λ (next : Machine). after next (evictions lines)) (line-evicted machine line sized) ∙
     (after-evictions (withCache machine (evictOf (machine .cache) line)) lines (CacheLaws.evictOf-sized (machine .cache) sized line) ∙
-    ap (withCache machine) (evict-then (machine .cache) line lines sized))
-
--- a table, and its last number
-tab-last : (count : ℕ) (f : ℕ → ℕ) → tab (suc count) f ≡ tab count f ++ (f count ∷ [])
-unfolding tab
-tab-last zero f = refl
-tab-last (suc count) f = ap (λ (rest : List ℕ). f 0 ∷ rest) (tab-last count (λ index. f (suc index)))
-
--- evicting one more line, the next one, is one more step 11
-pub evict-next : (machine : Machine) (count : ℕ) →
-    after machine (evictions (tab (count + 1) (λ line. line))) ≡
-    stepOf (after machine (evictions (tab count (λ line. line)))) 11 0 count 0 .machine
-unfolding evictions
-evict-next machine count =
-    ap (λ (lines : List ℕ). after machine (evictions lines))
-    (ap (λ (next : ℕ). tab next (λ line. line)) (add-one count) ∙ tab-last count (λ line. line)) ∙
-    (ap (after machine) (map-append evictOne (tab count (λ line. line)) (count ∷ [])) ∙
-    after-then machine (evictions (tab count (λ line. line))) (evictOne count))
-  where
-    evictOne : ℕ → Step
-    evictOne line = record { kind = 11; thread = 0; place = line; value = 0 }
-
--- steps from a machine that steps lead to lead to others
-pub after-reached : (machine : Machine) (steps : List Step) → Reached machine → Reached (after machine steps)
-unfolding after
-after-reached machine [] reached = reached
-after-reached machine (step ∷ steps) reached =
-    after-reached (stepWith machine step .machine) steps
-    (step-reached machine (step .kind) (step .thread) (step .place) (step .value) reached)
+    ap (withCache machine) (evict-then (machine .cache) line lines sized)))
 
 -- ---- images
-
--- a machine that steps lead to has 128 cells, seen and kept
-pub cache-sized : (machine : Machine) → Reached machine → CacheLaws.Sized (machine .cache)
-cache-sized machine reached =
-    subst⁻¹ (λ (machine : Machine). CacheLaws.Sized (machine .cache)) (reached .leads)
-    (after-run (reached .words) (reached .steps) .machineHolds .cacheSized)
 
 -- a number of a table is in it
 in-tab : (count : ℕ) (f : ℕ → ℕ) (index : ℕ) → index < count → isIn (f index) (tab count f) ≡ true
@@ -163,8 +113,8 @@ module _ (machine : Machine) (reached : Reached machine) where
   isAnyLine cell = isIn (lineOf cell) (tab lineCount (λ line. line))
 
   -- the lines of all cells are evicted: every cell has its seen content
-  all-evicted : mixFrom isAnyLine 0 (machine .cache .cached) (machine .cache .persisted) ≡ machine .cache .cached
-  all-evicted =
+  every-line : mixFrom isAnyLine 0 (machine .cache .cached) (machine .cache .persisted) ≡ machine .cache .cached
+  every-line =
       ext-getD 0 _ (machine .cache .cached)
       (length-mixFrom isAnyLine 0 (machine .cache .cached) (machine .cache .persisted) ∙ (sized .persisted-long ∙ sym (sized .cached-long)))
       (λ cell below.
@@ -183,9 +133,9 @@ module _ (machine : Machine) (reached : Reached machine) where
   unfolding imageOf
   image-of lines = ap imageOf (after-evictions machine lines sized)
 
-  -- the image with every line evicted
+  -- the image with every cell evicted
   abbrev pub seenImage : List ℕ
-  seenImage = imageOf (after machine (evictions (tab lineCount (λ line. line))))
+  seenImage = imageOf (after machine evictAll)
 
   -- where an image begins with 128 cells, these are its cells and the others the words behind them
   cells-of : (cells words : List ℕ) → length cells ≡ cellCount → take headsAt (cells ++ words) ≡ cells
@@ -195,13 +145,19 @@ module _ (machine : Machine) (reached : Reached machine) where
   behind-cells cells words isLength = ap (λ (count : ℕ). drop count (cells ++ words)) (sym isLength) ∙ drop-append-seam cells words
 
   seen-is : seenImage ≡ machine .cache .cached ++ logWords machine
-  seen-is = image-of (tab lineCount (λ line. line)) ∙ ap (λ (cells : List ℕ). cells ++ logWords machine) all-evicted
+  unfolding imageOf
+  seen-is = ap imageOf (all-evicted machine sized)
+
+  -- with every line evicted it is the same
+  pub lines-seen : imageOf (after machine (evictions (tab lineCount (λ line. line)))) ≡ seenImage
+  lines-seen =
+      image-of (tab lineCount (λ line. line)) ∙ (ap (λ (cells : List ℕ). cells ++ logWords machine) every-line ∙ sym seen-is)
 
   kept-is : imageOf machine ≡ machine .cache .persisted ++ logWords machine
   unfolding imageOf
   kept-is = refl
 
-  -- the images with every line evicted and with none have the seen and the kept cells, and the same words behind them
+  -- the images with every cell evicted and with none have the seen and the kept cells, and the same words behind them
   pub seen-cells : take headsAt seenImage ≡ machine .cache .cached
   seen-cells = ap (take headsAt) seen-is ∙ cells-of (machine .cache .cached) (logWords machine) (sized .cached-long)
 
@@ -224,7 +180,7 @@ module _ (machine : Machine) (reached : Reached machine) where
       (ap (λ (count : ℕ). count + length (logWords machine)) (sized .cached-long ∙ sym (sized .persisted-long)) ∙
       (sym (length-append (machine .cache .persisted) (logWords machine)) ∙ (ap length (sym kept-is) ∙ kept-long))))
 
-  -- the image of every choice is mixed of the images with every line evicted and with none
+  -- the image of every choice is mixed of the images with every cell evicted and with none
   pub evicted-image : (lines : List ℕ) →
       imageOf (after machine (evictions lines)) ≡ mixedImage (λ cell. isIn (lineOf cell) lines) seenImage (imageOf machine)
   evicted-image lines =

@@ -5,8 +5,8 @@ use mathlib.Core.List.{List, [], _∷_, _++_}
 use lib.ListN.{length, drop}
 use lib.Dec.{eqb, leb, ltb}
 use Rattle.answer.specs.declared.Answer.the-variants.{Unreadable as UnreadableAnswer}
-use Rattle.machine.specs.Steps.{stepOf}
 use Rattle.machine.specs.declared.Machine.{Machine}
+use Rattle.script.specs.Script.{scriptOf}
 use Rattle.line.specs.Lines.{linesOf}
 use Rattle.line.specs.declared.Line.{Line}
 use Rattle.line.specs.declared.Line.the-variants.{Step, Unreadable}
@@ -23,12 +23,13 @@ notZero (content ∷ contents) = cond (eqb content 0) (notZero contents) (suc (n
 unfoldable pub cutText : ℕ → Machine → List ℕ
 cutText number machine = cutLineText number (length (tried machine)) (notZero (recoveredBy machine [] .buffer))
 
--- a cut after each of these lines, of which the first has this number, by this machine. The next step is taken on the machine without the
--- evictions. "An unreadable line ends it as in document 01."
+-- a cut after each of these lines, of which the first has this number, by this machine; of an old listing's EVICT, "such a line is one
+-- step, cut only after the eight". The next step is taken on the machine without the evictions. "An unreadable line ends it as in document
+-- 01."
 unfoldable pub cutsFrom : Machine → ℕ → List Line → List ℕ
 cutsFrom machine number [] = []
 cutsFrom machine number (Step kind thread place value ∷ lines) =
-    let stepped = stepOf machine kind thread place value in
+    let stepped = scriptOf machine kind thread place value in
     cutText number (stepped .machine) ++ cutsFrom (stepped .machine) (suc number) lines
 cutsFrom machine number (Unreadable ∷ lines) = resultText number UnreadableAnswer
 

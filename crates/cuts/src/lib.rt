@@ -1,36 +1,16 @@
 // All cuts of a listing: after each step, the start included, every choice of lines that the cache may have let go.
 ghost use mathlib.Core.Path.{_≡_};
-ghost use Rattle.answer.specs.Lists.{tab};
-ghost use Rattle.cache.specs.Cache.{lineCount};
-ghost use Rattle.machine.specs.Runs.{Reached, after};
+ghost use Rattle.machine.specs.Runs.{Reached};
 ghost use Rattle.buffer.specs.Buffers.{written, placeAfter};
-ghost use Rattle.laws.specs.AnyEviction.{evictions};
 ghost use Rattle.cuts.specs.Cuts.{notZero, cutText, cutsIn};
 use answer::Answer;
-use kinds::EVICT;
 use line::Line;
 use listing::MOST_INPUT;
 use listing::TRANSCRIPT_ROOM;
 use log::IMAGE_WORDS;
 use machine::Machine;
 use sizes::CELLS;
-use sizes::words;
 use step::step;
-
-// The machine with every line evicted, the lowest first.
-fn evict_all(machine: Machine) -> Machine
-    requires { ⌜ Reached machine ⌝ }
-    ensures { λ r. ⌜ r ≡ after machine (evictions (tab lineCount (λ line. line))) ⌝ }
-{
-    let mut evicted = machine;
-    let mut line: u64 = 0;
-    while line < words::LINES {
-        let stepped = step(evicted, EVICT, 0, line, 0);
-        evicted = stepped.machine;
-        line += 1;
-    }
-    evicted
-}
 
 // How many of the cells are not 0.
 fn not_zero(cells: &[u64]) -> u64
@@ -59,8 +39,7 @@ fn write_cut(output: &mut [u8], place: usize, number: u64, machine: Machine) -> 
     let mut seen_image = [0u64; IMAGE_WORDS];
     let mut seen = [0u64; CELLS];
     machine.cut(&mut image);
-    let evicted = evict_all(machine);
-    evicted.cut(&mut seen_image);
+    machine.cut_evicted(&mut seen_image);
     recovery::recover(&image, &mut kept);
     recovery::recover(&seen_image, &mut seen);
     let choices = choices::alike_choices(&seen_image, &image, &seen, &kept);
@@ -95,8 +74,13 @@ pub fn all_cuts(input: &[u8], output: &mut [u8]) -> usize
         else {
             return print::write_result(output, place, number, Answer::Unreadable);
         };
-        let stepped = step(machine, kind, thread, at, value);
-        machine = stepped.machine;
+        let read = script::read_fields(kind, thread, at, value);
+        let mut taken: u64 = 0;
+        while taken < read.count {
+            let stepped = step(machine, read.kind, read.thread, read.first + taken, value);
+            machine = stepped.machine;
+            taken += 1;
+        }
         place = write_cut(output, place, number, machine);
         number += 1;
         from += line::line_length(rest);

@@ -21,7 +21,7 @@ use Rattle.kinds.specs.Kinds.{Kind, Field, below, counted, free, unused,
 use Rattle.kinds.specs.Kinds.{kindOf, fieldTests, countTests, inputTests, inputAnswer}
 
 -- a place that is at least the bound is one that is not below it
-not-below : (bound place : ℕ) → leb bound place ≡ not (ltb place bound)
+pub not-below : (bound place : ℕ) → leb bound place ≡ not (ltb place bound)
 not-below bound place =
     by-cases (decLt place bound)
     (λ within. rw (lt-leb bound place within, lt-ltb place bound within))
@@ -30,6 +30,10 @@ not-below bound place =
 -- the bound of a number that is at least another one, and is not that one
 pub above : (number least : ℕ) → least ≤ number → (number ≡ least → ⊥) → least + 1 ≤ number
 above number least atLeast other = omega arith
+
+-- the number of no kind: below 1, above 14, or 11
+abbrev pub Unknown : ℕ → Type 0
+Unknown number = (number < 1) ⊎ ((number ≡ 11) ⊎ (14 < number))
 
 -- each test of the input is a refusal
 pub fields-refuse : (thread : ℕ) (over left : Bool) → AllRefuse (fieldTests thread over left)
@@ -89,13 +93,6 @@ module _ (thread place value : ℕ) where
       (λ is. rw is)
       (λ other. by-cases (ℕ-discrete number 9) (λ is. rw is) (λ another. let is : number ≡ 10 = omega arith in rw is))
 
-  -- the row of EVICT
-  pub evict-row : (number : ℕ) → number ≡ 11 →
-      firstRefusal (fieldTests thread (leb lineCount place) (not (eqb thread 0) || not (eqb value 0))) ≡
-      inputAnswer (kindOf number) thread place value
-  unfolding kindOf inputTests
-  evict-row number is = rw (is, not-below lineCount place, or-false (not (eqb thread 0)))
-
   -- the row of EVICTLOG
   pub slot-row : (number : ℕ) → number ≡ 12 →
       firstRefusal (fieldTests thread (leb slotCount place) (not (eqb value 0))) ≡ inputAnswer (kindOf number) thread place value
@@ -116,12 +113,14 @@ module _ (thread place value : ℕ) where
   unfolding kindOf inputTests
   words-row number is = rw (is, not-below slotCount place)
 
-  -- a number below 1 or above 14 is in no row
-  pub no-row : (number : ℕ) → (number < 1) ⊎ (14 < number) → NoSuchKind ≡ inputAnswer (kindOf number) thread place value
+  -- a number that no kind has is in no row
+  pub no-row : (number : ℕ) → Unknown number → NoSuchKind ≡ inputAnswer (kindOf number) thread place value
   unfolding kindOf
-  no-row number outside =
+  no-row number unknown =
       ⊎-elim
       (λ low. let is : number ≡ 0 = omega arith in rw is)
+      (⊎-elim
+      (λ is. rw is)
       (λ high.
       let other : (kind : ℕ) → kind ≤ 14 → eqb number kind ≡ false = λ kind known. ne-eqb number kind (omega arith) in
       rw (
@@ -135,19 +134,21 @@ module _ (thread place value : ℕ) where
         other 8 (omega arith),
         other 9 (omega arith),
         other 10 (omega arith),
-        other 11 (omega arith),
         other 12 (omega arith),
         other 13 (omega arith),
         other 14 (omega arith),
-      ))
-      outside
+      )))
+      unknown
 
-  -- a number past PRUNE's row that is not one of the four evictions' is in no row
-  pub no-later-row : (number : ℕ) → 11 ≤ number → (number ≡ 11 → ⊥) → (number ≡ 12 → ⊥) → (number ≡ 13 → ⊥) → (number ≡ 14 → ⊥) →
+  -- a number past PRUNE's row that is not one of the three evictions' is in no row
+  pub no-later-row : (number : ℕ) → 11 ≤ number → (number ≡ 12 → ⊥) → (number ≡ 13 → ⊥) → (number ≡ 14 → ⊥) →
       NoSuchKind ≡ inputAnswer (kindOf number) thread place value
-  no-later-row number atLeast notEvict notSlot notCell notWords =
-      let past12 = above number 12 (above number 11 atLeast notEvict) notSlot in
-      no-row number (inr (above number 14 (above number 13 past12 notCell) notWords))
+  no-later-row number atLeast notSlot notCell notWords =
+      by-cases (ℕ-discrete number 11)
+      (λ is. no-row number (inr (inl is)))
+      (λ other.
+      let past12 = above number 12 (above number 11 atLeast other) notSlot in
+      no-row number (inr (inr (above number 14 (above number 13 past12 notCell) notWords))))
 
 -- an unused field with nothing left over is 0
 pub unused-zero : (field : Field) (word : ℕ) → field ≡ unused → isLeftOver field word ≡ false → word ≡ 0
@@ -220,26 +221,27 @@ module _ (thread place value number is : ℕ) (kind : Kind) (isKind : kindOf is 
   pub unused-value : fieldsOf kind .value ≡ unused → value ≡ 0
   unused-value isUnused = unused-zero (fieldsOf kind .value) value isUnused (accepted-unused thread place value kind of-kind .2)
 
--- the number of an accepted kind is 1 to 14
-pub known : (thread place value number : ℕ) → numberOf (inputAnswer (kindOf number) thread place value) ≡ 0 →
-    (1 ≤ number) × (number ≤ 14)
-known thread place value number isAccepted =
-    by-cases (decLt number 1) (λ low. outside (inl low))
-    (λ one. by-cases (decLt 14 number) (λ high. outside (inr high)) (λ within. (omega arith, omega arith)))
+-- the number of an accepted kind is 1 to 14, and not 11
+known : (thread place value number : ℕ) → numberOf (inputAnswer (kindOf number) thread place value) ≡ 0 →
+    (1 ≤ number) × (number ≡ 11 → ⊥) × (number ≤ 14)
+known thread place value number isAccepted = (
+  by-cases (decLt number 1) (λ low. absurd (outside (inl low))) (λ one. omega arith),
+  (λ is. outside (inr (inl is))),
+  by-cases (decLt 14 number) (λ high. absurd (outside (inr (inr high)))) (λ within. omega arith),
+)
   where
-    outside : (number < 1) ⊎ (14 < number) → (1 ≤ number) × (number ≤ 14)
+    outside : Unknown number → ⊥
     outside unknown =
-        let never : _≡_ {A = ℕ} 1 0 = ap numberOf (no-row thread place value number unknown) ∙ isAccepted in absurd (omega arith)
+        let never : _≡_ {A = ℕ} 1 0 = ap numberOf (no-row thread place value number unknown) ∙ isAccepted in omega arith
 
--- an accepted kind that is none of the first thirteen is the fourteenth
+-- an accepted kind that is none of the first twelve is EVICTWORDS
 pub last-kind : (thread place value number : ℕ) → numberOf (inputAnswer (kindOf number) thread place value) ≡ 0 →
     (number ≡ 1 → ⊥) → (number ≡ 2 → ⊥) → (number ≡ 3 → ⊥) → (number ≡ 4 → ⊥) → (number ≡ 5 → ⊥) → (number ≡ 6 → ⊥) →
-    (number ≡ 7 → ⊥) → (number ≡ 8 → ⊥) → (number ≡ 9 → ⊥) → (number ≡ 10 → ⊥) → (number ≡ 11 → ⊥) → (number ≡ 12 → ⊥) →
-    (number ≡ 13 → ⊥) → number ≡ 14
-last-kind thread place value number isAccepted not1 not2 not3 not4 not5 not6 not7 not8 not9 not10 not11 not12 not13 =
+    (number ≡ 7 → ⊥) → (number ≡ 8 → ⊥) → (number ≡ 9 → ⊥) → (number ≡ 10 → ⊥) → (number ≡ 12 → ⊥) → (number ≡ 13 → ⊥) → number ≡ 14
+last-kind thread place value number isAccepted not1 not2 not3 not4 not5 not6 not7 not8 not9 not10 not12 not13 =
     let isKnown = known thread place value number isAccepted in
     let past3 = above number 3 (above number 2 (above number 1 (isKnown .0) not1) not2) not3 in
     let past6 = above number 6 (above number 5 (above number 4 past3 not4) not5) not6 in
     let past9 = above number 9 (above number 8 (above number 7 past6 not7) not8) not9 in
-    let past12 = above number 12 (above number 11 (above number 10 past9 not10) not11) not12 in
-    le-antisymm (isKnown .1) (above number 13 past12 not13)
+    let past12 = above number 12 (above number 11 (above number 10 past9 not10) (isKnown .1)) not12 in
+    le-antisymm (isKnown .2) (above number 13 past12 not13)

@@ -12,9 +12,9 @@ use Rattle.cache.specs.Cache.{cellCount, lineCount}
 use Rattle.ring.specs.Ring.{slotCount}
 
 pub data Kind : Type 0 where
-  LOAD LOG STORE ACQUIRE LOGREL RELEASE FLUSH FLUSHLOG FENCE PRUNE EVICT EVICTLOG EVICTCELL EVICTWORDS : Kind
+  LOAD LOG STORE ACQUIRE LOGREL RELEASE FLUSH FLUSHLOG FENCE PRUNE EVICTLOG EVICTCELL EVICTWORDS : Kind
 
--- the kind of a number: none is "1: kind not 1 to 12", which "now begins at 15" (document 02)
+-- the kind of a number: none is "1: kind not 1 to 12", which "now begins at 15" and "now covers 11 too" (document 02)
 unfoldable pub kindOf : ℕ → Option Kind
 kindOf number =
     cond (eqb number 1) (some LOAD)
@@ -27,10 +27,9 @@ kindOf number =
     (cond (eqb number 8) (some FLUSHLOG)
     (cond (eqb number 9) (some FENCE)
     (cond (eqb number 10) (some PRUNE)
-    (cond (eqb number 11) (some EVICT)
     (cond (eqb number 12) (some EVICTLOG)
     (cond (eqb number 13) (some EVICTCELL)
-    (cond (eqb number 14) (some EVICTWORDS) none)))))))))))))
+    (cond (eqb number 14) (some EVICTWORDS) none))))))))))))
 
 -- how a kind uses a field: as a number below a bound, as a count from 1 to a bound, as any number, or not at all
 pub data Field : Type 0 where
@@ -48,8 +47,8 @@ pub record Fields : Type 0 where
 abbrev pub fields : Field → Field → Field → Fields
 fields thread place value = record { thread = thread; place = place; value = value }
 
--- "Unused fields are 0: value in all but STORE, place in 8, 9 and 10, thread in 11." Document 02: "step 13 uses 2, 3 and 4, its thread
--- unused; step 14 uses 3 for its slot, then new 19". The thread of every kind has its bound from test 2.
+-- "Unused fields are 0: value in all but STORE, place in 8, 9 and 10". Document 02: "step 13 uses 2, 3 and 4, its thread unused; step 14
+-- uses 3 for its slot, then new 19". The thread of every kind has its bound from test 2.
 abbrev pub fieldsOf : Kind → Fields
 fieldsOf LOAD = fields free (below cellCount) unused
 fieldsOf LOG = fields free (below cellCount) unused
@@ -61,7 +60,6 @@ fieldsOf FLUSH = fields free (below lineCount) unused
 fieldsOf FLUSHLOG = fields free unused unused
 fieldsOf FENCE = fields free unused unused
 fieldsOf PRUNE = fields free unused unused
-fieldsOf EVICT = fields unused (below lineCount) unused
 fieldsOf EVICTLOG = fields free (below slotCount) unused
 fieldsOf EVICTCELL = fields unused (below cellCount) unused
 fieldsOf EVICTWORDS = fields free (below slotCount) (counted entryWords)

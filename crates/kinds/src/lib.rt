@@ -14,7 +14,7 @@ use sizes::words::LOCKS;
 use sizes::words::SLOTS;
 use sizes::words::THREADS;
 
-// The kinds of step, by their numbers.
+// The kinds of step, by their numbers. There is no 11.
 pub const LOAD: u64 = 1;
 
 pub const LOG: u64 = 2;
@@ -35,8 +35,6 @@ pub const FENCE: u64 = 9;
 
 pub const PRUNE: u64 = 10;
 
-pub const EVICT: u64 = 11;
-
 pub const EVICTLOG: u64 = 12;
 
 pub const EVICTCELL: u64 = 13;
@@ -44,7 +42,7 @@ pub const EVICTCELL: u64 = 13;
 pub const EVICTWORDS: u64 = 14;
 
 // One of two fields is not 0.
-fn is_left(field: u64, other: u64) -> bool
+pub fn is_left(field: u64, other: u64) -> bool
     ensures { λ r. ⌜ r ≡ (not (eqb field 0) || not (eqb other 0)) ⌝ }
 {
     if field != 0 {
@@ -55,7 +53,7 @@ fn is_left(field: u64, other: u64) -> bool
 
 // The first refusal of the tests 2, 3 and 4, or acceptance: `over` says that the place is out of range, and `left` that a field is unused
 // and not 0.
-fn fields_answer(thread: u64, over: bool, left: bool) -> Answer
+pub fn fields_answer(thread: u64, over: bool, left: bool) -> Answer
     ensures { λ r. ⌜ r ≡ firstRefusal (fieldTests thread over left) ⌝ }
 {
     if THREADS <= thread {
@@ -97,7 +95,6 @@ pub fn input_answer(kind: u64, thread: u64, place: u64, value: u64) -> Answer
         ACQUIRE | LOGREL | RELEASE => fields_answer(thread, LOCKS <= place, value != 0),
         FLUSH => fields_answer(thread, LINES <= place, value != 0),
         FLUSHLOG | FENCE | PRUNE => fields_answer(thread, false, is_left(place, value)),
-        EVICT => fields_answer(thread, LINES <= place, is_left(thread, value)),
         EVICTLOG => fields_answer(thread, SLOTS <= place, value != 0),
         EVICTCELL => fields_answer(thread, CELLS <= place, is_left(thread, value)),
         EVICTWORDS => words_answer(thread, SLOTS <= place, value),

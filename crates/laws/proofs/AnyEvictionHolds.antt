@@ -1,17 +1,18 @@
 -- Whatever lines are evicted just before a cut, recovery finds the same cells: evictions leave the reference model alone.
-use Prim.Native.Nat.{ℕ}
+use Prim.Native.Nat.{ℕ, zero, suc, _+_, _*_}
 use mathlib.Core.Path.{_≡_, refl, sym, ap, ap₂, _∙_}
 use mathlib.Core.Bool.{Bool, true, false}
-use mathlib.Core.List.{List, [], _∷_, _++_}
+use mathlib.Core.List.{List, [], _∷_, _++_, flatten}
 use lib.ListN.{length, take, replicate, length-replicate}
 use Rattle.answer.specs.Answer.{isAccepted}
+use Rattle.answer.specs.Lists.{tab}
 use Rattle.answer.specs.Refusals.{Outcome}
 use Rattle.answer.specs.declared.Answer.{Answer}
 use Rattle.answer.specs.declared.Answer.the-variants.{Accepted}
 use Rattle.cache.specs.Cache.{cellCount}
 use Rattle.log.specs.Stretch.{imageWords}
 use Rattle.machine.specs.Image.{imageOf}
-use Rattle.machine.specs.Runs.{Step, stepWith}
+use Rattle.machine.specs.Runs.{Step, stepWith, evictSteps}
 use Rattle.machine.specs.declared.Machine.{Machine}
 use Rattle.recovery.specs.Recover.{recoverOf}
 use Rattle.reference.specs.Reference.{Book, emptyBook, feedAccepted, feed, cellsOf}
@@ -19,21 +20,32 @@ use Rattle.atomicity.specs.History.{startCells, startMachine, historyOf, fedBoo
 use Rattle.atomicity.proofs.Demand3Holds.{cut-writes, cut-recovers}
 use Rattle.laws.specs.AnyEviction.{evictions, AnyEviction}
 
--- an EVICT leaves the reference model as it was, accepted or not
-feed-evict : (book : Book) (line : ℕ) (accepted : Bool) → feed book 11 0 line 0 accepted ≡ book
+-- an EVICTCELL leaves the reference model as it was, accepted or not
+feed-evict : (book : Book) (cell : ℕ) (accepted : Bool) → feed book 13 0 cell 0 accepted ≡ book
 unfolding feed feedAccepted
-feed-evict book line true = refl
-feed-evict book line false = refl
+feed-evict book cell true = refl
+feed-evict book cell false = refl
+
+-- so do so many of them, from any place on
+cells-evicted : (book : Book) (machine : Machine) (count : ℕ) (cells : ℕ → ℕ) (others : List Step) →
+    ((machine : Machine) → fedBook book (historyOf machine others) ≡ book) →
+    fedBook book (historyOf machine (tab count (λ index. record { kind = 13; thread = 0; place = cells index; value = 0 }) ++ others)) ≡
+    book
+unfolding fedBook historyOf tab
+cells-evicted book machine zero cells others stay = stay machine
+cells-evicted book machine (suc count) cells others stay =
+    let step : Step = record { kind = 13; thread = 0; place = cells 0; value = 0 } in
+    let stepped = stepWith machine step in
+    let rest : List Step = tab count (λ index. record { kind = 13; thread = 0; place = cells (suc index); value = 0 }) ++ others in
+    ap (λ (book : Book). fedBook book (historyOf (stepped .machine) rest)) (feed-evict book (cells 0) (isAccepted (stepped .answer)))
+    ∙ cells-evicted book (stepped .machine) count (λ index. cells (suc index)) others stay
 
 -- evictions of any lines leave the reference model as it was
 book-evicted : (book : Book) (machine : Machine) (lines : List ℕ) → fedBook book (historyOf machine (evictions lines)) ≡ book
-unfolding fedBook historyOf evictions
+unfolding fedBook historyOf evictions evictSteps flatten
 book-evicted book machine [] = refl
 book-evicted book machine (line ∷ lines) =
-    let stepped = stepWith machine (record { kind = 11; thread = 0; place = line; value = 0 }) in
-    ap (λ (book : Book). fedBook book (historyOf (stepped .machine) (evictions lines)))
-    (feed-evict book line (isAccepted (stepped .answer)))
-    ∙ book-evicted book (stepped .machine) lines
+    cells-evicted book machine 8 (λ index. line * 8 + index) (evictions lines) (λ machine. book-evicted book machine lines)
 
 -- evictions after any steps leave the reference model as it was after the steps
 after-evicted : (book : Book) (machine : Machine) (steps : List Step) (lines : List ℕ)

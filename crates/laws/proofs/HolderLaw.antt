@@ -20,10 +20,10 @@ use Rattle.locks.specs.declared.Holder.{Holder}
 use Rattle.locks.specs.declared.Holder.the-variants.{Nobody, Thread}
 use Rattle.locks.specs.declared.Lock.{Lock}
 use Rattle.machine.specs.Effects.{loadEffect, firstLogEffect, storeEffect, acquireEffect, logReleaseEffect, releaseEffect, flushEffect}
-use Rattle.machine.specs.Effects.{flushLogEffect, fenceEffect, pruneEffect, evictEffect, evictLogEffect, evictCellEffect, effect}
+use Rattle.machine.specs.Effects.{flushLogEffect, fenceEffect, pruneEffect, evictLogEffect, evictCellEffect, effect}
 use Rattle.machine.specs.Effects.{evictWordsEffect}
 use Rattle.machine.specs.Holds.{logOf, lockOf}
-use Rattle.kinds.specs.Kinds.{Kind, LOAD, LOG, STORE, ACQUIRE, LOGREL, RELEASE, FLUSH, FLUSHLOG, FENCE, PRUNE, EVICT, EVICTLOG}
+use Rattle.kinds.specs.Kinds.{Kind, LOAD, LOG, STORE, ACQUIRE, LOGREL, RELEASE, FLUSH, FLUSHLOG, FENCE, PRUNE, EVICTLOG}
 use Rattle.kinds.specs.Kinds.{EVICTCELL, EVICTWORDS}
 use Rattle.machine.specs.declared.Machine.{Machine}
 use Rattle.machine.proofs.LogCases.{log-cases}
@@ -264,7 +264,7 @@ module _ (machine : Machine) (history : List Fed) (hold : HoldersHold machine hi
         aside PRUNE (λ is. omega arith) (λ is. omega arith) (pruned-holder (machine .locks) (liveEvent log (oldestRegion log - 1)))
 
     effect-holders : (kind : Kind) → Kept kind
-    unfolding effect loadEffect firstLogEffect storeEffect logReleaseEffect flushEffect flushLogEffect fenceEffect evictEffect
+    unfolding effect loadEffect firstLogEffect storeEffect logReleaseEffect flushEffect flushLogEffect fenceEffect
         evictLogEffect evictCellEffect evictWordsEffect
     effect-holders LOAD = aside LOAD (λ is. omega arith) (λ is. omega arith) (λ lock. refl)
     effect-holders LOG =
@@ -279,7 +279,6 @@ module _ (machine : Machine) (history : List Fed) (hold : HoldersHold machine hi
     effect-holders FLUSHLOG = aside FLUSHLOG (λ is. omega arith) (λ is. omega arith) (λ lock. refl)
     effect-holders FENCE = aside FENCE (λ is. omega arith) (λ is. omega arith) (λ lock. refl)
     effect-holders PRUNE = prune-holders
-    effect-holders EVICT = aside EVICT (λ is. omega arith) (λ is. omega arith) (λ lock. refl)
     effect-holders EVICTLOG = aside EVICTLOG (λ is. omega arith) (λ is. omega arith) (λ lock. refl)
     effect-holders EVICTCELL = aside EVICTCELL (λ is. omega arith) (λ is. omega arith) (λ lock. refl)
     effect-holders EVICTWORDS = aside EVICTWORDS (λ is. omega arith) (λ is. omega arith) (λ lock. refl)

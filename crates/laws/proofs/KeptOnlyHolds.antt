@@ -15,7 +15,7 @@ use Rattle.sizes.specs.Sizes.{threadCount, entryWords}
 use Rattle.answer.specs.Answer.{isAccepted}
 use Rattle.answer.proofs.BelowLaws.{someBelow-none, found-someBelow}
 use Rattle.answer.proofs.ListCases.{set-cases}
-use Rattle.cache.specs.Cache.{cellCount, lineOf, cachedAt, persistedAt, isPending, fenceOf, evictOf, evictCellOf}
+use Rattle.cache.specs.Cache.{cellCount, lineOf, cachedAt, persistedAt, isPending, fenceOf, evictCellOf}
 use Rattle.cache.specs.declared.Cache.{Cache}
 use Rattle.cache.proofs.CacheLaws as CacheLaws
 use Rattle.ring.specs.Ring.{slotCount, slotOf}
@@ -27,10 +27,10 @@ use Rattle.log.specs.declared.Log.{Log}
 use Rattle.log.proofs.SlotLaws.{slot-word, persist-word, run-elsewhere}
 use Rattle.undo.specs.Events.{endReleaseOf}
 use Rattle.kinds.specs.Kinds.{kindOf}
-use Rattle.kinds.specs.Kinds.{Kind, LOAD, LOG, STORE, ACQUIRE, LOGREL, RELEASE, FLUSH, FLUSHLOG, FENCE, PRUNE, EVICT, EVICTLOG}
+use Rattle.kinds.specs.Kinds.{Kind, LOAD, LOG, STORE, ACQUIRE, LOGREL, RELEASE, FLUSH, FLUSHLOG, FENCE, PRUNE, EVICTLOG}
 use Rattle.kinds.specs.Kinds.{EVICTCELL, EVICTWORDS}
 use Rattle.machine.specs.Effects.{effect, loadEffect, firstLogEffect, storeEffect, acquireEffect, logReleaseEffect, releaseEffect}
-use Rattle.machine.specs.Effects.{flushEffect, flushLogEffect, fenceEffect, pruneEffect, evictEffect, evictLogEffect}
+use Rattle.machine.specs.Effects.{flushEffect, flushLogEffect, fenceEffect, pruneEffect, evictLogEffect}
 use Rattle.machine.specs.Effects.{evictCellEffect, evictWordsEffect}
 use Rattle.machine.specs.Holds.{noLog, logOf}
 use Rattle.machine.specs.Image.{imageOf}
@@ -42,7 +42,7 @@ use Rattle.machine.proofs.Reaching.{after-then}
 use Rattle.machine.proofs.Sizes.{Sized, after-sized}
 use Rattle.machine.proofs.StepLaws.{step-cases}
 use Rattle.atomicity.specs.History.{startMachine, machineAfter}
-use Rattle.laws.specs.KeptOnly.{isLineWord, isCellWord, isFirstWord, isSlotWord, isHeadWord, isPendingWord, isFlushedWord}
+use Rattle.laws.specs.KeptOnly.{isCellWord, isFirstWord, isSlotWord, isHeadWord, isPendingWord, isFlushedWord}
 use Rattle.laws.specs.KeptOnly.{alteredBy, mayAlter, KeptOnly}
 use Rattle.atomicity.proofs.HistoryRuns.{effect-accepted, thread-in-range}
 use Rattle.atomicity.proofs.RunInvariantHolds.{after-run}
@@ -233,14 +233,6 @@ module _ (cache : Cache) (sized : CacheLaws.Sized cache) where
   abbrev choice : ℕ → Bool → ℕ
   choice cell isNew = cond isNew (cachedAt cache cell) (persistedAt cache cell)
 
-  -- EVICT leaves all persisted cells but those of its line
-  evicted-cells : (line : ℕ) → KeptCells (isLineWord line) cache (evictOf cache line)
-  evicted-cells line = record {
-    cells = λ cell inCells fails.
-        let elsewhere : eqb (lineOf cell) line ≡ false = rw (lt-ltb cell cellCount inCells) at fails in
-        CacheLaws.evictOf-persisted cache sized line cell ∙ ap (choice cell) elsewhere;
-  }
-
   -- EVICTCELL leaves all persisted cells but its own
   evicted-cell : (cell : ℕ) → KeptCells (isCellWord cell) cache (evictCellOf cache cell)
   evicted-cell cell = record {
@@ -303,7 +295,7 @@ module _ (machine : Machine) (sized : Sized machine) (cacheSized : CacheLaws.Siz
   effect-kept : (kind : Kind)
       → Kept (alteredBy machine (some kind) thread place value) machine (effect machine kind thread place value .machine)
   unfolding effect loadEffect firstLogEffect storeEffect acquireEffect logReleaseEffect releaseEffect flushEffect flushLogEffect fenceEffect
-      pruneEffect evictEffect evictLogEffect evictCellEffect evictWordsEffect appendOf flushLogOf endReleaseOf alteredBy
+      pruneEffect evictLogEffect evictCellEffect evictWordsEffect appendOf flushLogOf endReleaseOf alteredBy
   effect-kept LOAD = same-logs same-cells refl
   effect-kept LOG =
       log-cases
@@ -328,7 +320,6 @@ module _ (machine : Machine) (sized : Sized machine) (cacheSized : CacheLaws.Siz
       refl
       (log-outside (λ word fails. neither-fenced word fails .1) (fenced-log thread (logOf machine thread)))
   effect-kept PRUNE = one-log same-cells thread inLogs _ refl (dropped-log thread _ (logOf machine thread))
-  effect-kept EVICT = same-logs (evicted-cells (machine .cache) cacheSized place) refl
   effect-kept EVICTLOG = one-log same-cells thread inLogs _ refl (evicted-words thread place entryWords (logOf machine thread))
   effect-kept EVICTCELL = same-logs (evicted-cell (machine .cache) cacheSized place) refl
   effect-kept EVICTWORDS = one-log same-cells thread inLogs _ refl (evicted-words thread place value (logOf machine thread))

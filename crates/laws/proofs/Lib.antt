@@ -13,5 +13,6 @@ pub mod KeptOnlyHolds
 pub mod WastedFence
 -- log's sum
 pub mod LogSumHolds
--- evictions before a cut
+-- evictions of lines
+pub mod RetiredEvictHolds
 pub mod AnyEvictionHolds

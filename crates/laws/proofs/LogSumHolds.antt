@@ -23,9 +23,9 @@ use Rattle.append.specs.Append.{grownTail}
 use Rattle.log.specs.declared.Log.{Log}
 use Rattle.region.proofs.OldestLaws.{region-live}
 use Rattle.machine.specs.Effects.{loadEffect, firstLogEffect, storeEffect, acquireEffect, logReleaseEffect, releaseEffect, flushEffect}
-use Rattle.machine.specs.Effects.{flushLogEffect, fenceEffect, pruneEffect, evictEffect, evictLogEffect, evictCellEffect, effect}
+use Rattle.machine.specs.Effects.{flushLogEffect, fenceEffect, pruneEffect, evictLogEffect, evictCellEffect, effect}
 use Rattle.machine.specs.Effects.{evictWordsEffect}
-use Rattle.kinds.specs.Kinds.{Kind, LOAD, LOG, STORE, ACQUIRE, LOGREL, RELEASE, FLUSH, FLUSHLOG, FENCE, PRUNE, EVICT, EVICTLOG}
+use Rattle.kinds.specs.Kinds.{Kind, LOAD, LOG, STORE, ACQUIRE, LOGREL, RELEASE, FLUSH, FLUSHLOG, FENCE, PRUNE, EVICTLOG}
 use Rattle.kinds.specs.Kinds.{EVICTCELL, EVICTWORDS}
 use Rattle.machine.specs.Holds.{noLog, logOf, lockOf}
 use Rattle.machine.specs.Runs.{Step, stepWith, after}
@@ -112,7 +112,7 @@ effect-balanced : (machine : Machine) → Headed machine → (kind : Kind) (thre
     Balanced machine (record { kind = kindNumber kind; thread = thread; place = place; value = value })
     (effect machine kind thread place value)
 unfolding effect loadEffect firstLogEffect storeEffect acquireEffect logReleaseEffect releaseEffect flushEffect
-    flushLogEffect fenceEffect pruneEffect evictEffect evictLogEffect evictCellEffect evictWordsEffect appendOf grownTail
+    flushLogEffect fenceEffect pruneEffect evictLogEffect evictCellEffect evictWordsEffect appendOf grownTail
     flushLogOf flushedTail endReleaseOf releasedTail fenceLogOf fencedTail evictWordsOf dropOf
 effect-balanced machine headed kind thread place value fails =
     by-kind
@@ -160,7 +160,6 @@ effect-balanced machine headed kind thread place value fails =
         let most = region-live log in
         balanced-log machine headed _ _ sized thread (dropOf log (oldestRegion log)) inRange
         (prune-logs machine thread place value) (omega arith) (omega arith)
-    by-kind EVICT sized inRange order = balanced-same machine headed _ _ sized refl refl
     by-kind EVICTLOG sized inRange order =
         balanced-log machine headed _ _ sized thread (evictWordsOf (logOf machine thread) place entryWords) inRange refl order refl
     by-kind EVICTCELL sized inRange order = balanced-same machine headed _ _ sized refl refl

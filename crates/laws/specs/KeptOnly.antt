@@ -16,7 +16,7 @@ use Rattle.ring.specs.Ring.{slotOf}
 use Rattle.tail.specs.Tail.{unfenced}
 use Rattle.log.specs.Stretch.{imageWords, headsAt, stretchAt}
 use Rattle.log.specs.declared.Log.{Log}
-use Rattle.kinds.specs.Kinds.{Kind, LOAD, LOG, STORE, ACQUIRE, LOGREL, RELEASE, FLUSH, FLUSHLOG, FENCE, PRUNE, EVICT, EVICTLOG}
+use Rattle.kinds.specs.Kinds.{Kind, LOAD, LOG, STORE, ACQUIRE, LOGREL, RELEASE, FLUSH, FLUSHLOG, FENCE, PRUNE, EVICTLOG}
 use Rattle.kinds.specs.Kinds.{EVICTCELL, EVICTWORDS, kindOf}
 use Rattle.machine.specs.Holds.{logOf}
 use Rattle.machine.specs.Image.{imageOf}
@@ -24,11 +24,7 @@ use Rattle.machine.specs.Runs.{Step, stepWith}
 use Rattle.machine.specs.declared.Machine.{Machine}
 use Rattle.atomicity.specs.History.{machineAfter}
 
--- EVICT line: the word is a cell of the line. Cell c is word c of an image.
-abbrev pub isLineWord : ℕ → ℕ → Bool
-isLineWord line word = ltb word cellCount && eqb (lineOf word) line
-
--- EVICTCELL cell: the word is the cell
+-- EVICTCELL cell: the word is the cell. Cell c is word c of an image.
 abbrev pub isCellWord : ℕ → ℕ → Bool
 isCellWord cell word = eqb word cell
 
@@ -69,7 +65,6 @@ alteredBy machine (some FLUSHLOG) thread place value word = false
 alteredBy machine (some FENCE) thread place value word =
     isPendingWord (machine .cache) thread word || isFlushedWord (logOf machine thread) thread word
 alteredBy machine (some PRUNE) thread place value word = isHeadWord thread word
-alteredBy machine (some EVICT) thread place value word = isLineWord place word
 alteredBy machine (some EVICTLOG) thread place value word = isSlotWord thread place word
 alteredBy machine (some EVICTCELL) thread place value word = isCellWord place word
 alteredBy machine (some EVICTWORDS) thread place value word = isFirstWord thread place value word

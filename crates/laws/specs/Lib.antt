@@ -1,7 +1,9 @@
--- The laws on refusals 10, 12, 13, 15 and 16, on LOGs that append nothing, on what alters an image, on wasted fences, and the log's sum.
+-- The laws on refusals 10, 12, 13, 15 and 16, on LOGs that append nothing, on what alters an image, on wasted fences, the log's sum, and
+-- evictions of lines.
 pub mod RefusalLaws
 pub mod PrunedRegions
 pub mod KeptOnly
 pub mod WastedFence
 pub mod LogSum
 pub mod AnyEviction
+pub mod RetiredEvict

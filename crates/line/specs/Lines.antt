@@ -26,7 +26,7 @@ before byte text = take (indexOf byte text) text
 unfoldable pub after : ℕ → List ℕ → List ℕ
 after byte text = drop (indexOf byte text + 1) text
 
--- the names of the kinds 1 to 14: a name's place is its kind's number
+-- the names of the kinds, and that of the retired kind 11: a name's place is its number
 unfoldable pub names : List (List ℕ)
 names =
     ascii "LOAD" ∷ ascii "LOG" ∷ ascii "STORE" ∷ ascii "ACQUIRE" ∷ ascii "LOGREL" ∷ ascii "RELEASE" ∷

@@ -21,10 +21,11 @@ use Rattle.answer.specs.declared.Answer.the-variants.{Unreadable as UnreadableA
 use Rattle.bytes.specs.Bytes.{indexOf}
 use Rattle.cache.specs.Cache.{cellCount}
 use Rattle.machine.specs.Runs.{Reached}
-use Rattle.machine.specs.Steps.{stepOf}
 use Rattle.machine.specs.declared.Machine.{Machine}
 use Rattle.machine.specs.declared.Stepped.{Stepped}
-use Rattle.machine.proofs.Reaching.{start-reached, step-reached}
+use Rattle.machine.proofs.Reaching.{start-reached}
+use Rattle.script.specs.Script.{scriptOf}
+use Rattle.script.proofs.ScriptLaws.{script-reached}
 use Rattle.line.specs.Text.{ascii}
 use Rattle.line.specs.Lines.{newline, after, firstLine, linesFrom, linesOf}
 use Rattle.line.specs.declared.Line.{Line}
@@ -41,11 +42,13 @@ use Rattle.listing.proofs.InputLaws.{lines-first, leading}
 
 -- ---- the pieces
 
--- what is printed for some lines, by a machine, from a number on: a piece for each step, and its answer where a line can't be read
+-- what is printed for some lines, by a machine, from a number on: a piece for each line that says a step, and its answer where one can't be
+-- read
 pub record LineByLine (texts : Machine → ℕ → List Line → List ℕ) (piece : ℕ → Stepped → List ℕ) : Type 0 where
   pub on-step : (machine : Machine) (number kind thread place value : ℕ) (lines : List Line)
       → texts machine number (Step kind thread place value ∷ lines)
-      ≡ piece number (stepOf machine kind thread place value) ++ texts (stepOf machine kind thread place value .machine) (suc number) lines
+      ≡ piece number (scriptOf machine kind thread place value) ++
+      texts (scriptOf machine kind thread place value .machine) (suc number) lines
   pub on-unreadable : (machine : Machine) (number : ℕ) (lines : List Line)
       → texts machine number (Unreadable ∷ lines) ≡ resultText number UnreadableAnswer
 
@@ -62,7 +65,7 @@ module _ {texts : Machine → ℕ → List Line → List ℕ} {piece : ℕ → S
   unfolding leading
   texts-most machine number [] = omega (arith, last-most machine number)
   texts-most machine number (Step kind thread place value ∷ lines) =
-      let stepped = stepOf machine kind thread place value in
+      let stepped = scriptOf machine kind thread place value in
       omega (
         arith,
         ap length (by-line .on-step machine number kind thread place value lines),
@@ -218,7 +221,7 @@ module _ {texts : Machine → ℕ → List Line → List ℕ} {text input old ou
     printing-unreadable by-line key put =
         printing-last (resultText number UnreadableAnswer) (first ∙ rw (unreadable line key, by-line .on-unreadable)) put
 
-    -- a line that says a step prints the step's piece
+    -- a line that says a step prints its piece
     module _ {kind thread cell value : ℕ} (says : line ≡ Step kind thread cell value) where
       ended : indexOf newline (drop from input) < length (drop from input)
       ended =
@@ -230,9 +233,9 @@ module _ {texts : Machine → ℕ → List Line → List ℕ} {text input old ou
       pub line-within : {length' : ℕ} → length' ≡ indexOf newline (lent from input) + 1 → from + length' ≤ length input
       line-within long = omega (arith, rw (part-rest from input) at long, ended, length-drop from input)
 
-      module _ {stepped : Stepped} (is : stepped ≡ stepOf machine kind thread cell value) where
+      module _ {stepped : Stepped} (is : stepped ≡ scriptOf machine kind thread cell value) where
         pub stepped-reached : Reached (stepped .machine)
-        stepped-reached = rw is (step-reached machine kind thread cell value (so-far .reached))
+        stepped-reached = rw is (script-reached machine kind thread cell value (so-far .reached))
 
         module _ {piece : ℕ → Stepped → List ℕ} (by-line : LineByLine texts piece) {length' : ℕ}
             (long : length' ≡ indexOf newline (lent from input) + 1) where

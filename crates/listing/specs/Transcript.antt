@@ -8,8 +8,8 @@ use Rattle.answer.specs.declared.Answer.the-variants.{Unreadable as UnreadableA
 use Rattle.cache.specs.Cache.{cellCount}
 use Rattle.machine.specs.Holds.{startOf}
 use Rattle.machine.specs.Image.{imageOf}
-use Rattle.machine.specs.Steps.{stepOf}
 use Rattle.machine.specs.declared.Machine.{Machine}
+use Rattle.script.specs.Script.{scriptOf}
 use Rattle.recovery.specs.Recover.{recoverOf}
 use Rattle.line.specs.Lines.{linesOf}
 use Rattle.print.specs.Printed.{resultText, cellsText}
@@ -33,7 +33,7 @@ recoveredCells machine = recoverOf (imageOf machine) (replicate cellCount 0) .bu
 unfoldable pub printed : Machine → ℕ → List Line → List ℕ
 printed machine number [] = cellsText 0 (recoveredCells machine)
 printed machine number (Step kind thread place value ∷ lines) =
-    let stepped = stepOf machine kind thread place value in
+    let stepped = scriptOf machine kind thread place value in
     resultText number (stepped .answer) ++ printed (stepped .machine) (suc number) lines
 printed machine number (Unreadable ∷ lines) = resultText number UnreadableAnswer
 

@@ -5,7 +5,7 @@ ghost use lib.ListN.{length};
 ghost use Rattle.buffer.specs.Buffers.{written};
 ghost use Rattle.print.specs.Printed.{cellsText};
 ghost use Rattle.machine.specs.Runs.{Reached};
-ghost use Rattle.listing.specs.Transcript.{recoveredCells, transcriptIn};
+ghost use Rattle.listing.specs.Transcript.{startMachine, recoveredCells, transcriptIn};
 use answer::Answer;
 use line::Line;
 use log::IMAGE_WORDS;
@@ -51,6 +51,15 @@ fn write_recovered(output: &mut [u8], place: usize, machine: Machine) -> usize
     write_cells(output, place, &cells)
 }
 
+// The machine with all cells 0.
+fn start_machine() -> Machine
+    ensures { λ r. ⌜ r ≡ startMachine ⌝ }
+{
+    let zeros = [0u64; CELLS];
+    let started = Machine::start(&zeros);
+    started.machine
+}
+
 // Writes the transcript of the input, and answers how many bytes it takes.
 pub fn transcript(input: &[u8], output: &mut [u8]) -> usize
     ensures { λ r. ⌜ record { count = r; buffer = now (output .exit) } ≡ transcriptIn (now (input .entry)) (now (output .entry)) ⌝ }
@@ -61,9 +70,7 @@ pub fn transcript(input: &[u8], output: &mut [u8]) -> usize
     if MOST_INPUT < input.len() {
         return print::write_result(output, 0, 1, Answer::Unreadable);
     }
-    let zeros = [0u64; CELLS];
-    let started = Machine::start(&zeros);
-    let mut machine = started.machine;
+    let mut machine = start_machine();
     let mut number: u64 = 1;
     let mut from = 0;
     let mut place = 0;
@@ -78,9 +85,15 @@ pub fn transcript(input: &[u8], output: &mut [u8]) -> usize
         else {
             return print::write_result(output, place, number, Answer::Unreadable);
         };
-        let stepped = step(machine, kind, thread, at, value);
-        let answer = stepped.answer;
-        machine = stepped.machine;
+        let read = script::read_fields(kind, thread, at, value);
+        let mut answer = read.answer;
+        let mut taken: u64 = 0;
+        while taken < read.count {
+            let stepped = step(machine, read.kind, read.thread, read.first + taken, value);
+            answer = stepped.answer;
+            machine = stepped.machine;
+            taken += 1;
+        }
         place = print::write_result(output, place, number, answer);
         number += 1;
         from += line::line_length(rest);

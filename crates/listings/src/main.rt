@@ -1,6 +1,6 @@
 // Marks each listing that an argument names, NAME.listing, and compares what it prints, byte by byte, with the stored NAME.transcript.
-// Then prints how often each kind of step met each answer, counted from the listings and the stored transcripts. These come from elsewhere
-// (data/README.md), and never from what is printed here.
+// Then prints how often each name of a step met each answer, counted from the listings and the stored transcripts. These come from
+// elsewhere (data/README.md), and never from what is printed here.
 ghost use Prim.Native.Nat.{_≤_, _<_};
 ghost use Rattle.io.specs.Counts.{Counts};
 use line::Line;
@@ -14,7 +14,7 @@ enum Verdict {
     Missing,
 }
 
-// How often each kind of step met each answer: 15 rows, kinds 1 to 14 and lines that can't be read, of 21 columns, answers 0 to 20.
+// How often each name of a step met each answer: 15 rows, names 1 to 14 and lines that can't be read, of 21 columns, answers 0 to 20.
 type Table = [u64; 315];
 
 // The first bytes of the buffer, this many, or all where it has fewer.

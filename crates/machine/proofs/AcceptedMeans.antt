@@ -22,7 +22,7 @@ use Rattle.machine.specs.Clocks.{loadRaces, logRaces}
 use Rattle.accesses.specs.Logs.{firstLogTests}
 use Rattle.machine.specs.Holds.{logOf, lockOf, clockOf}
 use Rattle.locks.specs.Locks.{isHeld, isHeldBy}
-use Rattle.kinds.specs.Kinds.{LOAD, LOG, STORE, ACQUIRE, LOGREL, RELEASE, FLUSH, FLUSHLOG, FENCE, PRUNE, EVICT, EVICTLOG}
+use Rattle.kinds.specs.Kinds.{LOAD, LOG, STORE, ACQUIRE, LOGREL, RELEASE, FLUSH, FLUSHLOG, FENCE, PRUNE, EVICTLOG}
 use Rattle.kinds.specs.Kinds.{EVICTCELL, EVICTWORDS, inputTests}
 use Rattle.locks.specs.LockSteps.{releaseTests}
 use Rattle.prune.specs.Pruning.{awaitsRelease, logsUndurable, pruneTests}
@@ -229,11 +229,6 @@ prune-asked machine thread place value fails = record {
   awaitsNothing = fails .1 .1 .1 .1 .1 .0;
   cellsDurable = fails .1 .1 .1 .1 .1 .1 .0;
 }
-
-pub evict-asked : (machine : Machine) (thread line value : ℕ) → AllFail (testsOf machine EVICT thread line value)
-    → (thread < threadCount) × (line < 16)
-unfolding inputTests
-evict-asked machine thread line value fails = (below-bound thread threadCount (fails .0), below-bound line 16 (fails .1 .0))
 
 pub evict-cell-asked : (machine : Machine) (thread cell value : ℕ) → AllFail (testsOf machine EVICTCELL thread cell value)
     → (thread < threadCount) × (cell < 128)

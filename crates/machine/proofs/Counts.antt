@@ -28,11 +28,11 @@ use Rattle.region.proofs.OldestLaws.{region-live, finished-some}
 use Rattle.clocks.specs.Clocks.{clockAt, joinOf, raisedOf, noClock, startClocks}
 use Rattle.accesses.specs.Accesses.{loadedOf, loggedCellOf}
 use Rattle.machine.specs.Effects.{loadEffect, firstLogEffect, storeEffect, acquireEffect, logReleaseEffect, releaseEffect}
-use Rattle.machine.specs.Effects.{flushEffect, flushLogEffect, fenceEffect, pruneEffect, evictEffect, evictLogEffect, effect}
+use Rattle.machine.specs.Effects.{flushEffect, flushLogEffect, fenceEffect, pruneEffect, evictLogEffect, effect}
 use Rattle.machine.specs.Effects.{evictCellEffect, evictWordsEffect}
 use Rattle.locks.specs.Locks.{prunedLocks, noLock}
 use Rattle.machine.specs.Holds.{noLog, logOf, lockOf, clockOf, lockClockOf, startOf}
-use Rattle.kinds.specs.Kinds.{Kind, LOAD, LOG, STORE, ACQUIRE, LOGREL, RELEASE, FLUSH, FLUSHLOG, FENCE, PRUNE, EVICT, EVICTLOG}
+use Rattle.kinds.specs.Kinds.{Kind, LOAD, LOG, STORE, ACQUIRE, LOGREL, RELEASE, FLUSH, FLUSHLOG, FENCE, PRUNE, EVICTLOG}
 use Rattle.kinds.specs.Kinds.{EVICTCELL, EVICTWORDS}
 use Rattle.machine.specs.Runs.{Step, after, Reached}
 use Rattle.clocks.specs.declared.Clock.{Clock}
@@ -266,7 +266,7 @@ pruned-locks locks (Release held count) lock = changed-lock locks held _ 0 1 (om
 pub effect-counted : (machine : Machine) → Counted machine → (kind : Kind) (thread place value : ℕ)
     → AllFail (testsOf machine kind thread place value) → Counted (effect machine kind thread place value .machine)
 unfolding effect loadEffect firstLogEffect storeEffect acquireEffect logReleaseEffect releaseEffect flushEffect
-    flushLogEffect fenceEffect pruneEffect evictEffect evictLogEffect evictCellEffect evictWordsEffect loadedOf loggedCellOf
+    flushLogEffect fenceEffect pruneEffect evictLogEffect evictCellEffect evictWordsEffect loadedOf loggedCellOf
     flushLogOf flushedTail endReleaseOf releasedTail fenceLogOf fencedTail evictWordsOf
 effect-counted machine counted LOAD thread place value fails =
     counted-same machine _ counted (effect-sized machine (counted .sized) LOAD thread place value fails) refl refl refl refl
@@ -383,8 +383,6 @@ effect-counted machine counted PRUNE thread place value fails =
     (asked .inThread)
     (prune-pays log (asked .isFinishedRegion) (counted .nextBound thread) (counted .headBound thread))
     (pruned-locks (machine .locks) (liveEvent log (oldestRegion log - 1))) refl refl refl
-effect-counted machine counted EVICT thread place value fails =
-    counted-same machine _ counted (effect-sized machine (counted .sized) EVICT thread place value fails) refl refl refl refl
 effect-counted machine counted EVICTLOG thread place value fails =
     counted-log machine _ counted (effect-sized machine (counted .sized) EVICTLOG thread place value fails) thread _ 0 0
     (evict-log-asked machine thread place value fails .inThread)

@@ -9,4 +9,5 @@ pub mod ImageWritten
 pub mod AcceptedMeans
 pub mod Counts
 pub mod Reaching
+pub mod Evictions
 pub mod PartSteps

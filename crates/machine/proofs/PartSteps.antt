@@ -21,7 +21,7 @@ use Rattle.undo.specs.Regions.{oldestRegion, loggedOf, storeTestsOn}
 use Rattle.undo.specs.declared.Event.the-variants.{Acquire, Release}
 use Rattle.undo.specs.declared.Found.{Found}
 use Rattle.undo.specs.declared.Found.the-variants.{Nowhere, At}
-use Rattle.kinds.specs.Kinds.{Kind, LOAD, LOG, STORE, ACQUIRE, LOGREL, RELEASE, FLUSH, FLUSHLOG, FENCE, PRUNE, EVICT, EVICTLOG}
+use Rattle.kinds.specs.Kinds.{Kind, LOAD, LOG, STORE, ACQUIRE, LOGREL, RELEASE, FLUSH, FLUSHLOG, FENCE, PRUNE, EVICTLOG}
 use Rattle.kinds.specs.Kinds.{EVICTCELL, EVICTWORDS, kindOf, inputAnswer}
 use Rattle.clocks.specs.Clocks.{clockAt, joinOf, raiseOf}
 use Rattle.accesses.specs.Accesses.{loadedOf}
@@ -375,10 +375,6 @@ module _ (machine : Machine) (thread place : ℕ) where
   pub fence-step : Accepts 9 thread 0 0 → effect machine FENCE thread 0 0 ≡ stepOf machine 9 thread 0 0
   unfolding kindOf stateTests
   fence-step isAccepted = plain machine thread 0 0 9 FENCE refl isAccepted refl
-
-  pub evict-step : Accepts 11 0 place 0 → effect machine EVICT 0 place 0 ≡ stepOf machine 11 0 place 0
-  unfolding kindOf stateTests
-  evict-step isAccepted = plain machine 0 place 0 11 EVICT refl isAccepted refl
 
   pub evict-cell-step : Accepts 13 0 place 0 → effect machine EVICTCELL 0 place 0 ≡ stepOf machine 13 0 place 0
   unfolding kindOf stateTests

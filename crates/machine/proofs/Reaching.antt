@@ -14,6 +14,12 @@ unfolding after
 after-then machine [] step = refl
 after-then machine (first ∷ steps) step = after-then (stepWith machine first .machine) steps step
 
+-- a list of steps after another
+pub after-append : (machine : Machine) (steps others : List Step) → after machine (steps ++ others) ≡ after (after machine steps) others
+unfolding after
+after-append machine [] others = refl
+after-append machine (step ∷ steps) others = after-append (stepWith machine step .machine) steps others
+
 pub start-reached : (words : List ℕ) → Reached (startOf words .machine)
 unfolding after
 start-reached words = record { words = words; steps = []; leads = refl }
@@ -29,3 +35,10 @@ step-reached machine kind thread place value reached =
           ap (λ (before : Machine). stepWith before step .machine) (reached .leads) ∙
           rw (after-then (startOf (reached .words) .machine) (reached .steps) step);
     }
+
+pub after-reached : (machine : Machine) (steps : List Step) → Reached machine → Reached (after machine steps)
+unfolding after
+after-reached machine [] reached = reached
+after-reached machine (step ∷ steps) reached =
+    after-reached (stepWith machine step .machine) steps
+    (step-reached machine (step .kind) (step .thread) (step .place) (step .value) reached)

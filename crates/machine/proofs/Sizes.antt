@@ -14,10 +14,10 @@ use Rattle.undo.specs.declared.Event.the-variants.{Empty, Store, Acquire, Relea
 use Rattle.log.specs.declared.Log.{Log}
 use Rattle.accesses.specs.Accesses.{loadedOf, loggedCellOf}
 use Rattle.machine.specs.Effects.{loadEffect, firstLogEffect, storeEffect, acquireEffect, logReleaseEffect, releaseEffect}
-use Rattle.machine.specs.Effects.{flushEffect, flushLogEffect, fenceEffect, pruneEffect, countPruned, evictEffect}
+use Rattle.machine.specs.Effects.{flushEffect, flushLogEffect, fenceEffect, pruneEffect, countPruned}
 use Rattle.machine.specs.Effects.{evictLogEffect, evictCellEffect, evictWordsEffect, effect}
 use Rattle.machine.specs.Holds.{logOf, withCache, withLog, startOf}
-use Rattle.kinds.specs.Kinds.{Kind, LOAD, LOG, STORE, ACQUIRE, LOGREL, RELEASE, FLUSH, FLUSHLOG, FENCE, PRUNE, EVICT, EVICTLOG}
+use Rattle.kinds.specs.Kinds.{Kind, LOAD, LOG, STORE, ACQUIRE, LOGREL, RELEASE, FLUSH, FLUSHLOG, FENCE, PRUNE, EVICTLOG}
 use Rattle.kinds.specs.Kinds.{EVICTCELL, EVICTWORDS}
 use Rattle.machine.specs.Runs.{Step, after}
 use Rattle.machine.specs.declared.Machine.{Machine}
@@ -74,7 +74,7 @@ withCache-sized machine cache sized = record {
 pub effect-sized : (machine : Machine) → Sized machine → (kind : Kind) (thread place value : ℕ)
     → AllFail (testsOf machine kind thread place value) → Sized (effect machine kind thread place value .machine)
 unfolding effect loadEffect firstLogEffect storeEffect acquireEffect logReleaseEffect releaseEffect flushEffect
-    flushLogEffect fenceEffect pruneEffect evictEffect evictLogEffect evictCellEffect evictWordsEffect loadedOf loggedCellOf
+    flushLogEffect fenceEffect pruneEffect evictLogEffect evictCellEffect evictWordsEffect loadedOf loggedCellOf
 effect-sized machine sized LOAD thread place value fails = record {
   logs = sized .logs;
   clocks = sized .clocks;
@@ -135,7 +135,6 @@ effect-sized machine sized PRUNE thread place value fails =
     pruned-sized (withLog machine thread (dropOf (logOf machine thread) (oldestRegion (logOf machine thread))))
     (liveEvent (logOf machine thread) (oldestRegion (logOf machine thread) - 1))
     (withLog-sized machine thread _ sized)
-effect-sized machine sized EVICT thread place value fails = withCache-sized machine _ sized
 effect-sized machine sized EVICTLOG thread place value fails = withLog-sized machine thread _ sized
 effect-sized machine sized EVICTCELL thread place value fails = withCache-sized machine _ sized
 effect-sized machine sized EVICTWORDS thread place value fails = withLog-sized machine thread _ sized

@@ -15,7 +15,7 @@ use Rattle.log.specs.Entries.{evictSlotTests}
 use Rattle.accesses.proofs.LogLaws.{log-refuses}
 use Rattle.machine.specs.Effects.{effect}
 use Rattle.machine.specs.Holds.{logOf, clockOf}
-use Rattle.kinds.specs.Kinds.{Kind, LOAD, LOG, STORE, ACQUIRE, LOGREL, RELEASE, FLUSH, FLUSHLOG, FENCE, PRUNE, EVICT, EVICTLOG}
+use Rattle.kinds.specs.Kinds.{Kind, LOAD, LOG, STORE, ACQUIRE, LOGREL, RELEASE, FLUSH, FLUSHLOG, FENCE, PRUNE, EVICTLOG}
 use Rattle.kinds.specs.Kinds.{EVICTCELL, EVICTWORDS, kindOf, inputTests}
 use Rattle.machine.specs.Refusals.{loadTests, logTests, storeTests, acquireTests, logReleaseTests, stateTests}
 use Rattle.locks.specs.LockSteps.{releaseTests}
@@ -37,7 +37,6 @@ state-refuses machine FLUSH thread place = tt
 state-refuses machine FLUSHLOG thread place = tt
 state-refuses machine FENCE thread place = tt
 state-refuses machine PRUNE thread place = (refl, (refl, (refl, (refl, tt))))
-state-refuses machine EVICT thread place = tt
 state-refuses machine EVICTLOG thread place = (refl, tt)
 state-refuses machine EVICTCELL thread place = tt
 state-refuses machine EVICTWORDS thread place = (refl, tt)

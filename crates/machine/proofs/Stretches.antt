@@ -12,9 +12,9 @@ use Rattle.ring.specs.Ring.{slotCount}
 use Rattle.log.specs.declared.Log.{Log}
 use Rattle.log.proofs.SlotLaws.{length-persistWords, length-persistFrom}
 use Rattle.machine.specs.Effects.{loadEffect, firstLogEffect, storeEffect, acquireEffect, logReleaseEffect, releaseEffect}
-use Rattle.machine.specs.Effects.{flushEffect, flushLogEffect, fenceEffect, pruneEffect, evictEffect, evictLogEffect, effect}
+use Rattle.machine.specs.Effects.{flushEffect, flushLogEffect, fenceEffect, pruneEffect, evictLogEffect, effect}
 use Rattle.machine.specs.Effects.{evictCellEffect, evictWordsEffect}
-use Rattle.kinds.specs.Kinds.{Kind, LOAD, LOG, STORE, ACQUIRE, LOGREL, RELEASE, FLUSH, FLUSHLOG, FENCE, PRUNE, EVICT, EVICTLOG}
+use Rattle.kinds.specs.Kinds.{Kind, LOAD, LOG, STORE, ACQUIRE, LOGREL, RELEASE, FLUSH, FLUSHLOG, FENCE, PRUNE, EVICTLOG}
 use Rattle.kinds.specs.Kinds.{EVICTCELL, EVICTWORDS}
 use Rattle.machine.specs.Holds.{noLog, logOf, withLog, startOf}
 use Rattle.machine.specs.Runs.{Reached}
@@ -41,7 +41,7 @@ module _ (machine : Machine) (thread : ℕ) (log : Log) where
 effect-same : (machine : Machine) (kind : Kind) (thread place value : ℕ)
     → slotCounts (effect machine kind thread place value .machine .logs) ≡ slotCounts (machine .logs)
 unfolding effect loadEffect firstLogEffect storeEffect acquireEffect logReleaseEffect releaseEffect flushEffect
-    flushLogEffect fenceEffect pruneEffect evictEffect evictLogEffect evictCellEffect evictWordsEffect appendOf flushLogOf
+    flushLogEffect fenceEffect pruneEffect evictLogEffect evictCellEffect evictWordsEffect appendOf flushLogOf
     endReleaseOf fenceLogOf evictWordsOf dropOf
 effect-same machine LOAD thread place value = refl
 effect-same machine LOG thread place value =
@@ -61,7 +61,6 @@ effect-same machine FLUSHLOG thread place value = put-same machine thread _ refl
 effect-same machine FENCE thread place value = put-same machine thread (fenceLogOf (logOf machine thread)) (length-persistFrom _ _ _ _)
 effect-same machine PRUNE thread place value =
     put-same machine thread (dropOf (logOf machine thread) (oldestRegion (logOf machine thread))) refl
-effect-same machine EVICT thread place value = refl
 effect-same machine EVICTLOG thread place value =
     put-same machine thread (evictWordsOf (logOf machine thread) place entryWords) (length-persistWords _ _ _ _)
 effect-same machine EVICTCELL thread place value = refl

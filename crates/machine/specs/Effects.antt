@@ -1,7 +1,7 @@
 -- "Steps": what each kind does once no refusal holds, and the number that it answers.
 use Prim.Native.Nat.{ℕ, _+_, _-_}
 use Rattle.answer.specs.declared.Answer.the-variants.{Accepted}
-use Rattle.cache.specs.Cache.{cachedAt, pendingCount, storeOf, flushOf, fenceOf, evictOf, evictCellOf}
+use Rattle.cache.specs.Cache.{cachedAt, pendingCount, storeOf, flushOf, fenceOf, evictCellOf}
 use Rattle.undo.specs.Events.{liveEvent, enterOf, endReleaseOf}
 use Rattle.tail.specs.Tail.{unfenced}
 use Rattle.log.specs.Entries.{flushLogOf, fenceLogOf, evictSlotOf, evictWordsOf, dropOf}
@@ -16,7 +16,7 @@ use Rattle.machine.specs.Clocks.{stampNow}
 use Rattle.machine.specs.Holds.{logOf, lockOf, clockOf, lockClockOf, withCache, withLog, withAccesses, withLock, withClock}
 use Rattle.machine.specs.Holds.{withLockClock, withLocks}
 use Rattle.locks.specs.Locks.{takenBy, freedOf, prunedLocks}
-use Rattle.kinds.specs.Kinds.{Kind, LOAD, LOG, STORE, ACQUIRE, LOGREL, RELEASE, FLUSH, FLUSHLOG, FENCE, PRUNE, EVICT, EVICTLOG}
+use Rattle.kinds.specs.Kinds.{Kind, LOAD, LOG, STORE, ACQUIRE, LOGREL, RELEASE, FLUSH, FLUSHLOG, FENCE, PRUNE, EVICTLOG}
 use Rattle.kinds.specs.Kinds.{EVICTCELL, EVICTWORDS}
 use Rattle.machine.specs.declared.Machine.{Machine}
 use Rattle.machine.specs.declared.Stepped.{Stepped}
@@ -121,10 +121,6 @@ pruneEffect machine thread =
     (withLog machine thread (dropOf log (oldestRegion log)))
     (liveEvent log (oldestRegion log - 1)))
 
--- "EVICT line: seen content becomes kept. Nothing becomes firm."
-unfoldable pub evictEffect : Machine → ℕ → Stepped
-evictEffect machine line = accepted 0 (withCache machine (evictOf (machine .cache) line))
-
 -- "EVICTLOG thread, slot: seen content becomes kept. Nothing becomes firm."
 unfoldable pub evictLogEffect : Machine → ℕ → ℕ → Stepped
 evictLogEffect machine thread slot =
@@ -151,7 +147,6 @@ effect machine FLUSH thread place value = flushEffect machine thread place
 effect machine FLUSHLOG thread place value = flushLogEffect machine thread
 effect machine FENCE thread place value = fenceEffect machine thread
 effect machine PRUNE thread place value = pruneEffect machine thread
-effect machine EVICT thread place value = evictEffect machine place
 effect machine EVICTLOG thread place value = evictLogEffect machine thread place
 effect machine EVICTCELL thread place value = evictCellEffect machine place
 effect machine EVICTWORDS thread place value = evictWordsEffect machine thread place value

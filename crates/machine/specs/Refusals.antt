@@ -4,7 +4,7 @@ use mathlib.Core.List.{List, [], _++_}
 use Rattle.answer.specs.Refusals.{Test}
 use Rattle.log.specs.Entries.{appendTests, evictSlotTests}
 use Rattle.undo.specs.Regions.{storeTestsOn}
-use Rattle.kinds.specs.Kinds.{Kind, LOAD, LOG, STORE, ACQUIRE, LOGREL, RELEASE, FLUSH, FLUSHLOG, FENCE, PRUNE, EVICT, EVICTLOG}
+use Rattle.kinds.specs.Kinds.{Kind, LOAD, LOG, STORE, ACQUIRE, LOGREL, RELEASE, FLUSH, FLUSHLOG, FENCE, PRUNE, EVICTLOG}
 use Rattle.kinds.specs.Kinds.{EVICTCELL, EVICTWORDS}
 use Rattle.accesses.specs.Loads.{loadTestsOn}
 use Rattle.accesses.specs.Logs.{logTestsOn}
@@ -48,7 +48,6 @@ stateTests machine FLUSH thread place = []
 stateTests machine FLUSHLOG thread place = []
 stateTests machine FENCE thread place = []
 stateTests machine PRUNE thread place = pruneTests (logOf machine thread) (machine .cache) (machine .locks)
-stateTests machine EVICT thread place = []
 stateTests machine EVICTLOG thread place = evictSlotTests (logOf machine thread) place
 stateTests machine EVICTCELL thread place = []
 stateTests machine EVICTWORDS thread place = evictSlotTests (logOf machine thread) place

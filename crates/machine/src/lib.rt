@@ -8,7 +8,7 @@ ghost use Rattle.cache.specs.Cache.{cellCount};
 ghost use Rattle.log.specs.Stretch.{imageWords};
 ghost use Rattle.machine.specs.Holds.{freshMachine, startOf};
 ghost use Rattle.machine.specs.Image.{logInto, cutOf};
-ghost use Rattle.machine.specs.Runs.{Reached};
+ghost use Rattle.machine.specs.Runs.{after, evictAll, Reached};
 ghost use Rattle.machine.specs.Steps.{stepOf};
 use accesses::Accesses;
 use accesses::STAMPS;
@@ -17,7 +17,6 @@ use answer::Answer;
 use cache::Cache;
 use clocks::Clock;
 use kinds::ACQUIRE;
-use kinds::EVICT;
 use kinds::EVICTCELL;
 use kinds::EVICTLOG;
 use kinds::EVICTWORDS;
@@ -391,23 +390,6 @@ impl Machine {
         }
     }
 
-    // EVICT: the line's cached content is persisted.
-    pub fn evict(mut self, line: u64) -> Stepped
-        requires { ⌜ Reached self ⌝ }
-        ensures { λ r. ⌜ r ≡ stepOf self 11 0 line 0 ⌝ }
-    {
-        let mut answer = input_answer(EVICT, 0, line, 0);
-        if answer::number(answer) == 0 {
-            let cache = self.cache;
-            let evicted = writeback::evict(cache, line as usize);
-            self.cache = evicted;
-        }
-        Stepped {
-            answer,
-            machine: self,
-        }
-    }
-
     // EVICTLOG: the entry in the slot becomes persisted.
     pub fn evict_log(mut self, thread: u64, slot: u64) -> Stepped
         requires { ⌜ Reached self ⌝ }
@@ -486,5 +468,17 @@ impl Machine {
             thread += 1;
         }
         Answer::Accepted(0)
+    }
+
+    // The cut with every cell evicted just before, as by an EVICTCELL of each: the image has the cells' cached contents.
+    pub fn cut_evicted(mut self, image: &mut [u64]) -> Answer
+        requires { ⌜ Reached self ⌝ }
+        ensures { λ r. ⌜ record { answer = r; buffer = now (image .exit) } ≡ cutOf (after self evictAll) (now (image .entry)) ⌝ }
+    {
+        let mut cache = self.cache;
+        let seen = cache.cached;
+        cache.persisted = seen;
+        self.cache = cache;
+        self.cut(image)
     }
 }

@@ -1,9 +1,8 @@
-// Takes 100,800 steps of all fourteen kinds, all accepted, so that a step can be timed: 100 runs of 63 rounds of 16 steps, by the four
+// Takes 100,800 steps of all thirteen kinds, all accepted, so that a step can be timed: 100 runs of 63 rounds of 16 steps, by the four
 // threads in turn. Prints the number of steps and the sum of the runs' last answers: each run ends in a PRUNE that frees 3 entries.
 ghost use mathlib.Core.Path.{_≡_};
 ghost use lib.ListN.{length};
 use kinds::ACQUIRE;
-use kinds::EVICT;
 use kinds::EVICTCELL;
 use kinds::EVICTLOG;
 use kinds::EVICTWORDS;
@@ -31,19 +30,19 @@ const KINDS: [u64; 16] = [
     FLUSH,
     FENCE,
     RELEASE,
-    EVICT,
+    EVICTCELL,
     EVICTLOG,
     EVICTCELL,
     EVICTWORDS,
     PRUNE,
 ];
 
-// The place of each step of a round: lock 2, cell 5, lines 0 and 3. The slot of EVICTLOG and EVICTWORDS depends on the round.
-const PLACES: [u64; 16] = [2, 5, 0, 0, 5, 5, 2, 0, 0, 0, 2, 3, 0, 5, 0, 0];
+// The place of each step of a round: lock 2, cells 5 and 24, line 0. The slot of EVICTLOG and EVICTWORDS depends on the round.
+const PLACES: [u64; 16] = [2, 5, 0, 0, 5, 5, 2, 0, 0, 0, 2, 24, 0, 5, 0, 0];
 
-// The thread of a round's step: EVICT and EVICTCELL have none.
+// The thread of a round's step: EVICTCELL has none.
 fn thread_of(kind: u64, round: u64) -> u64 {
-    if kind == EVICT || kind == EVICTCELL {
+    if kind == EVICTCELL {
         return 0;
     }
     round % 4

@@ -7,7 +7,7 @@ mod image;
 
 use image::Image;
 use kinds::ACQUIRE;
-use kinds::EVICT;
+use kinds::EVICTCELL;
 use kinds::FENCE;
 use kinds::FLUSH;
 use kinds::FLUSHLOG;
@@ -25,8 +25,8 @@ const LENT: u64 = 99;
 // The words of a step.
 const STEP_WORDS: usize = 4;
 
-// Room for the words of 21 steps. No point has more.
-const ROOM: usize = 84;
+// Room for the words of 26 steps. No point has more.
+const ROOM: usize = 104;
 
 // A list of steps: their words one after another, and how many words these are.
 struct Steps {
@@ -58,6 +58,17 @@ impl Steps {
             words,
             used: used + STEP_WORDS,
         }
+    }
+
+    // The list with the eight steps more that evict a line, the lowest cell first, where there is room for them.
+    fn evict(self, line: u64) -> Steps {
+        let mut steps = self;
+        let mut index: u64 = 0;
+        while index < 8 {
+            steps = steps.then(EVICTCELL, 0, line % 16 * 8 + index, 0);
+            index += 1;
+        }
+        steps
     }
 }
 
@@ -187,9 +198,10 @@ fn logged_5() -> Steps {
         .then(FENCE, 0, 0, 0)
 }
 
-// P4 "LOG cell 5, FLUSHLOG, FENCE, STORE 7 to it, EVICT line 0, cut: recovers the old content"; the image has the new content
+// P4 "LOG cell 5, FLUSHLOG, FENCE, STORE 7 to it, EVICT line 0, cut: recovers the old content", with document 02's eight steps for the
+// EVICT; the image has the new content
 fn point_4() -> bool {
-    let steps = logged_5().then(STORE, 0, 5, 7).then(EVICT, 0, 0, 0);
+    let steps = logged_5().then(STORE, 0, 5, 7).evict(0);
     cut(steps, 5, 7, 105)
 }
 
@@ -233,9 +245,9 @@ fn point_7() -> bool {
     answers(steps, 16, 0)
 }
 
-// P8 "none pruned, line evicted: recovers 3"; the image has 5
+// P8 "none pruned, line evicted: recovers 3", by the eight steps; the image has 5
 fn point_8() -> bool {
-    let steps = both().then(EVICT, 0, 1, 0);
+    let steps = both().evict(1);
     cut(steps, 9, 5, 3)
 }
 

@@ -8,6 +8,8 @@ pub const CELLS: u64 = 128;
 
 pub const LINES: u64 = 16;
 
+pub const LINE_CELLS: u64 = 8;
+
 pub const SLOTS: u64 = 64;
 
 pub const ENTRY_WORDS: u64 = 4;

@@ -3,7 +3,6 @@ ghost use mathlib.Core.Path.{_≡_};
 ghost use Rattle.machine.specs.Runs.{Reached};
 ghost use Rattle.machine.specs.Steps.{stepOf};
 use kinds::ACQUIRE;
-use kinds::EVICT;
 use kinds::EVICTCELL;
 use kinds::EVICTLOG;
 use kinds::EVICTWORDS;
@@ -38,7 +37,6 @@ pub fn step(machine: Machine, kind: u64, thread: u64, place: u64, value: u64) ->
         FLUSHLOG => machine.flush_log(thread),
         FENCE => machine.fence(thread),
         PRUNE => machine.prune(thread),
-        EVICT => machine.evict(place),
         EVICTLOG => machine.evict_log(thread, place),
         EVICTCELL => machine.evict_cell(place),
         EVICTWORDS => machine.evict_words(thread, place, value),

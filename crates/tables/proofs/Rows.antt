@@ -6,7 +6,7 @@ use mathlib.Core.List.{List, [], _∷_, map, flatten}
 use lib.Dec.{T, eqb, eqb→eq}
 use Rattle.answer.specs.Lists.{tab, someBelow, countBelow, setFrom, mixFrom}
 use Rattle.answer.specs.Refusals.{unless}
-use Rattle.cache.specs.Cache.{cacheOf, storeOf, flushOf, fenceOf, evictOf, evictCellOf}
+use Rattle.cache.specs.Cache.{cacheOf, storeOf, flushOf, fenceOf, evictCellOf}
 use Rattle.tail.specs.Tail.{freshTail, flushedTail, fencedTail, releasedTail}
 use Rattle.append.specs.Append.{grownTail, roomTests}
 use Rattle.log.specs.Entries.{wordsOf, freshLog, isLiveSlot, flushLogOf, persistWords, persistSlot, persistFrom, fenceLogOf}
@@ -17,7 +17,7 @@ use Rattle.log.specs.Stretch.{stretchOf, holds, presentFrom, presentOf}
 use Rattle.clocks.specs.Clocks.{clockAt, joinOf, raisedOf}
 use Rattle.accesses.specs.Accesses.{loadedOf, loggedCellOf}
 use Rattle.machine.specs.Effects.{loadEffect, firstLogEffect, logEffect, storeEffect, acquireEffect, logReleaseEffect, releaseEffect}
-use Rattle.machine.specs.Effects.{flushEffect, flushLogEffect, fenceEffect, pruneEffect, evictEffect, evictLogEffect, effect}
+use Rattle.machine.specs.Effects.{flushEffect, flushLogEffect, fenceEffect, pruneEffect, evictLogEffect, effect}
 use Rattle.machine.specs.Effects.{evictCellEffect, evictWordsEffect}
 use Rattle.machine.specs.Holds.{freshMachine, startOf}
 use Rattle.machine.specs.Image.{imageOf, cutOf}
@@ -25,8 +25,9 @@ use Rattle.kinds.specs.Kinds.{kindOf, inputTests}
 use Rattle.machine.specs.Refusals.{loadTests, logTests, storeTests, acquireTests, logReleaseTests, stateTests}
 use Rattle.locks.specs.LockSteps.{releaseTests}
 use Rattle.prune.specs.Pruning.{pruneTests}
-use Rattle.machine.specs.Runs.{after, answers}
+use Rattle.machine.specs.Runs.{after, answers, evictSteps}
 use Rattle.machine.specs.Steps.{stepOfKind, stepOf}
+use Rattle.script.specs.Script.{scriptOf}
 use Rattle.image.specs.Stored.{storedLogs}
 use Rattle.image.specs.Tests.{isBadHead, isBadEntry, hasBadEntry, imageTests}
 use Rattle.recovery.specs.Recover.{recoverTests, recoverOf}
@@ -43,14 +44,14 @@ same (x ∷ xs) (y ∷ ys) = eqb x y && same xs ys
 
 -- each row gives what is asked. What stands under it is unfolded with it: each definition of the machine and of recovery that rows reach.
 unfoldable pub allGiven : List Row → Bool
-unfolding same flatten tab someBelow countBelow setFrom mixFrom unless cacheOf storeOf flushOf fenceOf evictOf
+unfolding same flatten tab someBelow countBelow setFrom mixFrom unless cacheOf storeOf flushOf fenceOf
     evictCellOf freshTail grownTail roomTests flushedTail fencedTail releasedTail wordsOf freshLog isLiveSlot appendOf
     flushLogOf endReleaseOf eventOf persistWords persistSlot persistFrom fenceLogOf evictSlotTests evictWordsOf dropOf
     loggedAmong loggedOf goesOn oldestRegion isFinished stretchOf holds presentFrom presentOf clockAt joinOf raisedOf
     loadedOf loggedCellOf loadEffect firstLogEffect logEffect storeEffect acquireEffect logReleaseEffect releaseEffect
-    flushEffect flushLogEffect fenceEffect pruneEffect evictEffect evictLogEffect evictCellEffect evictWordsEffect
+    flushEffect flushLogEffect fenceEffect pruneEffect evictLogEffect evictCellEffect evictWordsEffect
     effect freshMachine startOf imageOf cutOf kindOf inputTests loadTests logTests storeTests acquireTests
-    logReleaseTests releaseTests pruneTests stateTests after answers stepOfKind stepOf isBadHead isBadEntry hasBadEntry
+    logReleaseTests releaseTests pruneTests stateTests after answers evictSteps stepOfKind stepOf scriptOf isBadHead isBadEntry hasBadEntry
     imageTests recoverTests recoverOf storedLogs hasLaterAcquire mayTakeEntry mayTake lowestFrom takeLast takeNext
     takeMany undoStart undone hasLeft
 allGiven [] = true

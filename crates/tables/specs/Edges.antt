@@ -1,5 +1,5 @@
--- Document 01's numbers, bounds and orders of tests, with LOG, FENCE, the next slot and the evictions of cells and words as document 02
--- has them, as a second table beside that of the P points: each row stands under the words that it is read from. Where steps get to an
+-- Document 01's numbers, bounds and orders of tests, with LOG, FENCE, the next slot and the evictions as document 02 has them, as a second
+-- table beside that of the P points: each row stands under the words that it is read from. Where steps get to an
 -- edge only after very many, or never, a row begins at a machine that is written down; images that no machine makes are written down too.
 use Prim.Native.Nat.{ℕ, _+_, _-_}
 use mathlib.Core.Path.{_≡_}
@@ -23,6 +23,7 @@ use Rattle.machine.specs.Holds.{startOf, logOf, withLog, withAccesses}
 use Rattle.machine.specs.Image.{imageOf, cutOf}
 use Rattle.machine.specs.Runs.{Step, stepWith, after, answers}
 use Rattle.machine.specs.declared.Machine.{Machine}
+use Rattle.script.specs.Script.{scriptOf}
 use Rattle.recovery.specs.Recover.{recoverOf}
 use Rattle.atomicity.specs.History.{startMachine, machineAfter}
 use Rattle.tables.specs.Points.{step, LOAD, LOG, STORE, ACQUIRE, LOGREL, RELEASE, FLUSH, FLUSHLOG, FENCE, PRUNE, EVICT, EVICTLOG}
@@ -95,8 +96,9 @@ released7 = closes7 ++ (RELEASE 3 7 ∷ [])
 -- the refusals because of the input: "First match in this order", and before those because of the state
 unfoldable pub inputRows : List Row
 inputRows =
-    -- "1: kind not 1 to 12", document 02: "Refusal 1 now begins at 15"
+    -- "1: kind not 1 to 12", document 02: "Refusal 1 now begins at 15", and "now covers 11 too", whatever the other fields
     (asks start (step 0 0 0 0 ∷ step 15 0 0 0 ∷ step 0 4 128 1 ∷ step 15 4 128 1 ∷ []) gives 1 ∷ 1 ∷ 1 ∷ 1 ∷ []) ∷
+    (asks start (step 11 0 0 0 ∷ around 11 15) gives replicate 7 1) ∷
     -- "2: thread over 3. 3: place over 127 (LOAD, LOG, STORE), 7 (locks), 15 (lines) or 63 (EVICTLOG). 4: an unused field not 0."
     -- LOAD and LOG, and where 8 would follow
     (asks start (around 1 127) gives 0 ∷ 2 ∷ 3 ∷ 4 ∷ 2 ∷ 3 ∷ []) ∷
@@ -119,9 +121,6 @@ inputRows =
     (asks start (around 9 0) gives 0 ∷ 2 ∷ 4 ∷ 4 ∷ 2 ∷ 4 ∷ []) ∷
     (asks (ran released7) (around 10 0) gives 0 ∷ 2 ∷ 4 ∷ 4 ∷ 2 ∷ 4 ∷ []) ∷
     (asks start (around 10 0) gives 15 ∷ 2 ∷ 4 ∷ 4 ∷ 2 ∷ 4 ∷ []) ∷
-    -- EVICT, "thread in 11": 2 with a thread over 3, and 4 with one from 1 to 3
-    (asks start (around 11 15) gives 4 ∷ 2 ∷ 3 ∷ 4 ∷ 2 ∷ 3 ∷ []) ∷
-    (asks start (EVICT 15 ∷ step 11 1 15 0 ∷ step 11 2 15 0 ∷ EVICT 16 ∷ step 11 0 15 1 ∷ []) gives 0 ∷ 4 ∷ 4 ∷ 3 ∷ 4 ∷ []) ∷
     -- EVICTLOG, and where 18 would follow
     (asks (after (fromRank 3 63) (LOG 3 5 ∷ [])) (around 12 63) gives 0 ∷ 2 ∷ 3 ∷ 4 ∷ 2 ∷ 3 ∷ []) ∷
     (asks start (around 12 63) gives 18 ∷ 2 ∷ 3 ∷ 4 ∷ 2 ∷ 3 ∷ []) ∷
@@ -158,7 +157,7 @@ stateRows =
     (asks (ran closing) (LOG 0 6 ∷ LOG 0 5 ∷ LOG 0 9 ∷ STORE 0 5 1 ∷ STORE 0 6 1 ∷ []) gives replicate 5 7) ∷
     (asks (ran closing) (ACQUIRE 0 1 ∷ ACQUIRE 0 0 ∷ LOGREL 0 0 ∷ LOGREL 0 1 ∷ []) gives replicate 4 7) ∷
     -- LOAD, FLUSH, FLUSHLOG, FENCE and the evictions do not ask for 7, and another thread is not closing
-    (asks (ran closing) (LOAD 0 5 ∷ FLUSH 0 0 ∷ FLUSHLOG 0 ∷ FENCE 0 ∷ EVICT 0 ∷ EVICTLOG 0 2 ∷ []) gives replicate 6 0) ∷
+    (asks (ran closing) (LOAD 0 5 ∷ FLUSH 0 0 ∷ FLUSHLOG 0 ∷ FENCE 0 ∷ EVICTLOG 0 2 ∷ []) gives replicate 5 0) ∷
     (asks (ran closing) (EVICTCELL 5 ∷ EVICTWORDS 0 2 1 ∷ []) gives 0 ∷ 0 ∷ []) ∷
     (asks (ran closing) (LOG 1 6 ∷ ACQUIRE 1 1 ∷ []) gives 0 ∷ 0 ∷ []) ∷
     -- RELEASE "14: not closing on this lock", also where 11 would follow; "11: some live entry up to .. the RELEASE entry .. isn't firm"
@@ -365,7 +364,7 @@ againRows =
     (takes start storesNine gives replicate 8 0) ∷
     (given start storesNine gives 1 ∷ 0 ∷ 1 ∷ 1 ∷ 0 ∷ 1 ∷ 0 ∷ 1 ∷ []) ∷
     (words 132 12 (ran (storesNine ++ (FLUSHLOG 0 ∷ FENCE 0 ∷ []))) gives entry 0 0 0 0 ++ entry 1 9 109 1 ++ entry 0 0 0 0) ∷
-    (recovered numbered (storesNine ++ (FLUSHLOG 0 ∷ FENCE 0 ∷ EVICT 1 ∷ [])) gives 0 ∷ numbered) ∷
+    (recovered numbered (storesNine ++ (FLUSHLOG 0 ∷ FENCE 0 ∷ EVICT 1)) gives 0 ∷ numbered) ∷
     -- it "appends nothing": one entry is live, the next LOG has the next rank, and PRUNE frees the entries of cells 9 and 10
     (asks (ran storesNine) (EVICTLOG 0 1 ∷ EVICTLOG 0 2 ∷ []) gives 0 ∷ 18 ∷ []) ∷
     (given (ran storesNine) endsNine gives 2 ∷ 0 ∷ 0 ∷ 0 ∷ 3 ∷ 2 ∷ []) ∷
@@ -394,7 +393,7 @@ turns = makes 0 4 ++ makes 1 5 ++ makes 0 6
 unfoldable pub afterTurns : List Step
 afterTurns =
     (ACQUIRE 2 0 ∷ LOAD 2 9 ∷ LOAD 2 127 ∷ ACQUIRE 2 1 ∷ LOGREL 2 0 ∷ []) ++
-    (FLUSH 1 1 ∷ FENCE 1 ∷ EVICT 1 ∷ EVICTLOG 2 1 ∷ PRUNE 0 ∷ PRUNE 1 ∷ PRUNE 0 ∷ [])
+    (FLUSH 1 1 ∷ FENCE 1 ∷ EVICTCELL 9 ∷ EVICTLOG 2 1 ∷ PRUNE 0 ∷ PRUNE 1 ∷ PRUNE 0 ∷ [])
 
 -- refused steps, and after each some step that would answer otherwise if the refused one had changed anything
 unfoldable pub refusals : List Step
@@ -445,11 +444,13 @@ stored =
     (LOG 0 7 ∷ LOG 0 8 ∷ LOG 0 15 ∷ LOG 0 16 ∷ FLUSHLOG 0 ∷ FENCE 0 ∷ []) ++
     (STORE 0 7 1 ∷ STORE 0 8 2 ∷ STORE 0 15 3 ∷ STORE 0 16 4 ∷ [])
 
--- the kept contents of cells 7, 8, 15 and 16 after the STOREs to them and further steps
+-- the kept contents of cells 7, 8, 15 and 16
+unfoldable pub fourKept : Machine → List ℕ
+fourKept machine = map (λ cell. getD (imageOf machine) cell 0) (7 ∷ 8 ∷ 15 ∷ 16 ∷ [])
+
+-- the same after the STOREs to them and further steps
 unfoldable pub keeps : List Step → List ℕ
-keeps steps =
-    let image = imageOf (ran (stored ++ steps)) in
-    map (λ cell. getD image cell 0) (7 ∷ 8 ∷ 15 ∷ 16 ∷ [])
+keeps steps = fourKept (ran (stored ++ steps))
 
 -- what PRUNE answers once the region with the STOREs to cells 7, 8, 15 and 16 is ended and further steps are taken
 unfoldable pub frees : List Step → List ℕ
@@ -460,23 +461,51 @@ keptRows =
     -- "A cut loses the seen one." A mark keeps nothing, nor does another thread's FENCE
     (keeps [] gives 107 ∷ 108 ∷ 115 ∷ 116 ∷ []) ∷
     (keeps (FLUSH 0 1 ∷ FENCE 1 ∷ []) gives 107 ∷ 108 ∷ 115 ∷ 116 ∷ []) ∷
-    -- "cell c is in line c / 8, rounded down": FENCE and EVICT keep whole lines and no others; any thread may flush
+    -- "cell c is in line c / 8, rounded down": FENCE and eight EVICTCELLs keep whole lines and no others; any thread may flush
     (keeps (FLUSH 0 1 ∷ FENCE 0 ∷ []) gives 107 ∷ 2 ∷ 3 ∷ 116 ∷ []) ∷
     (keeps (FLUSH 1 1 ∷ FENCE 1 ∷ []) gives 107 ∷ 2 ∷ 3 ∷ 116 ∷ []) ∷
-    (keeps (EVICT 1 ∷ []) gives 107 ∷ 2 ∷ 3 ∷ 116 ∷ []) ∷
+    (keeps (EVICT 1) gives 107 ∷ 2 ∷ 3 ∷ 116 ∷ []) ∷
     -- EVICTCELL: "its seen content alone becomes kept"
     (keeps (EVICTCELL 8 ∷ []) gives 107 ∷ 2 ∷ 115 ∷ 116 ∷ []) ∷
     (keeps (EVICTCELL 7 ∷ EVICTCELL 15 ∷ []) gives 1 ∷ 108 ∷ 3 ∷ 116 ∷ []) ∷
     -- STORE: "All threads' marks on its line go", and no others
     (keeps (FLUSH 0 1 ∷ FLUSH 1 1 ∷ FLUSH 0 0 ∷ FLUSH 1 2 ∷ STORE 0 8 9 ∷ FENCE 0 ∷ FENCE 1 ∷ []) gives 1 ∷ 108 ∷ 115 ∷ 4 ∷ []) ∷
-    -- EVICT: "Nothing becomes firm." EVICTCELL: "Neither makes anything firm." FENCE: "its 8 cells are firm", of this thread's marked
-    -- lines: all of lines 0, 1 and 2 have to be
-    (frees (EVICT 0 ∷ EVICT 1 ∷ EVICT 2 ∷ []) gives 17 ∷ []) ∷
+    -- EVICTCELL: "Neither makes anything firm." FENCE: "its 8 cells are firm", of this thread's marked lines: all of lines 0, 1 and 2 have
+    -- to be
+    (frees (EVICT 0 ++ EVICT 1 ++ EVICT 2) gives 17 ∷ []) ∷
     (frees (EVICTCELL 7 ∷ EVICTCELL 8 ∷ EVICTCELL 15 ∷ EVICTCELL 16 ∷ []) gives 17 ∷ []) ∷
     (frees (FLUSH 0 0 ∷ FLUSH 0 1 ∷ FENCE 0 ∷ []) gives 17 ∷ []) ∷
     (frees (FLUSH 0 1 ∷ FLUSH 0 2 ∷ FENCE 0 ∷ []) gives 17 ∷ []) ∷
     (frees (FLUSH 0 0 ∷ FLUSH 0 2 ∷ FLUSH 1 1 ∷ FENCE 0 ∷ []) gives 17 ∷ []) ∷
     (frees (FLUSH 0 0 ∷ FLUSH 0 2 ∷ FLUSH 1 1 ∷ FENCE 0 ∷ FENCE 1 ∷ []) gives 0 ∷ []) ∷ []
+
+-- ---- text lines
+
+-- the numbers of the answers that are printed for text lines, each asked of this same machine
+unfoldable pub says : Machine → List Step → List ℕ
+says machine lines =
+    map (λ line. numberOf (scriptOf machine (line .kind) (line .thread) (line .place) (line .value) .answer)) lines
+
+-- the kept contents of cells 7, 8, 15 and 16 after the STOREs to them and a text line
+unfoldable pub keepsRead : Step → List ℕ
+keepsRead line = fourKept (scriptOf (ran stored) (line .kind) (line .thread) (line .place) (line .value) .machine)
+
+-- "The listing program reads it in old listings as eight EVICTCELL steps, lowest cell first, and prints one line for them with answer 0."
+unfoldable pub lineRows : List Row
+lineRows =
+    -- the cells of lines 0, 1 and 2, and of no other
+    (keepsRead (step 11 0 0 0) gives 1 ∷ 108 ∷ 115 ∷ 116 ∷ []) ∷
+    (keepsRead (step 11 0 1 0) gives 107 ∷ 2 ∷ 3 ∷ 116 ∷ []) ∷
+    (keepsRead (step 11 0 2 0) gives 107 ∷ 108 ∷ 115 ∷ 4 ∷ []) ∷
+    (valueOf (scriptOf (ran stored) 11 0 1 0 .answer) ∷ [] gives 0 ∷ []) ∷
+    -- "A bad field in such a text line is answered as before": 2, 3 and 4, in this order, and nothing changes
+    (says start (around 11 15) gives 4 ∷ 2 ∷ 3 ∷ 4 ∷ 2 ∷ 3 ∷ []) ∷
+    (says start (step 11 0 15 0 ∷ step 11 1 15 0 ∷ step 11 2 15 0 ∷ step 11 0 16 0 ∷ step 11 0 15 1 ∷ []) gives 0 ∷ 4 ∷ 4 ∷ 3 ∷ 4 ∷ []) ∷
+    (keepsRead (step 11 1 1 0) gives 107 ∷ 108 ∷ 115 ∷ 116 ∷ []) ∷
+    (keepsRead (step 11 0 1 1) gives 107 ∷ 108 ∷ 115 ∷ 116 ∷ []) ∷
+    -- any other line is the step that it says
+    (keepsRead (EVICTCELL 8) gives 107 ∷ 2 ∷ 115 ∷ 116 ∷ []) ∷
+    (says start (STORE 0 5 7 ∷ LOG 4 5 ∷ EVICTLOG 0 1 ∷ step 10 0 1 0 ∷ step 15 0 0 0 ∷ []) gives 10 ∷ 2 ∷ 18 ∷ 4 ∷ 1 ∷ []) ∷ []
 
 -- ---- what a fence carried
 
@@ -493,8 +522,8 @@ fenceRows =
     -- "with this thread's mark", of which a line has one at most
     (given start (FLUSH 0 1 ∷ FLUSH 1 1 ∷ FLUSH 1 2 ∷ FENCE 0 ∷ FENCE 1 ∷ FENCE 2 ∷ []) gives 0 ∷ 0 ∷ 0 ∷ 1 ∷ 2 ∷ 0 ∷ []) ∷
     (given start (FLUSH 2 1 ∷ FLUSH 2 1 ∷ FLUSH 2 2 ∷ FENCE 2 ∷ []) gives 0 ∷ 0 ∷ 0 ∷ 2 ∷ []) ∷
-    -- an EVICT or EVICTCELL leaves the mark, though what it kept is the seen content; a STORE to the line takes all threads' marks
-    (given (ran stored) (FLUSH 0 0 ∷ FLUSH 0 1 ∷ EVICT 1 ∷ FENCE 0 ∷ []) gives 0 ∷ 0 ∷ 0 ∷ 2 ∷ []) ∷
+    -- EVICTCELLs leave the mark, though what they kept is the seen content; a STORE to the line takes all threads' marks
+    (given (ran (stored ++ (FLUSH 0 0 ∷ FLUSH 0 1 ∷ EVICT 1))) (FENCE 0 ∷ []) gives 2 ∷ []) ∷
     (given (ran stored) (FLUSH 0 0 ∷ FLUSH 0 1 ∷ EVICTCELL 8 ∷ FENCE 0 ∷ []) gives 0 ∷ 0 ∷ 0 ∷ 2 ∷ []) ∷
     (given (ran stored) (FLUSH 0 0 ∷ FLUSH 0 1 ∷ FLUSH 1 1 ∷ STORE 0 8 9 ∷ FENCE 0 ∷ FENCE 1 ∷ []) gives 0 ∷ 0 ∷ 0 ∷ 0 ∷ 1 ∷ 0 ∷ []) ∷
     -- "its marked entries": not those made later, nor another thread's
@@ -559,8 +588,8 @@ imageRows =
     -- "It sits in slot rank mod 64", and EVICTLOG keeps one slot. Thread 2's begin at word 644
     (words 644 4 (evicts 63) ++ words 896 4 (evicts 63) gives entry 0 0 0 0 ++ entry 1 5 105 63) ∷
     (words 644 4 (evicts 0) ++ words 896 4 (evicts 0) gives entry 1 6 106 64 ++ entry 0 0 0 0) ∷
-    -- EVICTWORDS: "the first so many words of the live entry there become kept, in the order kind, place, value, rank"; the others stay, and
-    -- so do words that are kept already
+    -- EVICTWORDS: "the first so many words of the live entry there become kept, in the order kind, place, value, rank"; the others stay,
+    -- and so do words that are kept already
     (tears [] gives entry 0 0 0 0 ++ entry 1 9 109 1 ++ entry 0 0 0 0) ∷
     (tears (1 ∷ []) gives entry 0 0 0 0 ++ entry 2 9 109 1 ++ entry 0 0 0 0) ∷
     (tears (2 ∷ []) gives entry 0 0 0 0 ++ entry 2 3 109 1 ++ entry 0 0 0 0) ∷
@@ -692,7 +721,7 @@ unfoldable pub edges : List Row
 edges =
     inputRows ++
     stateRows ++
-    pruneRows ++ roomRows ++ againRows ++ givenRows ++ keptRows ++ fenceRows ++ imageRows ++ recoveryRows ++ otherRows
+    pruneRows ++ roomRows ++ againRows ++ givenRows ++ keptRows ++ lineRows ++ fenceRows ++ imageRows ++ recoveryRows ++ otherRows
 
 -- what document 01 asks at its edges is what the definitions give
 abbrev pub Edges : Type 0

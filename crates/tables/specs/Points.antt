@@ -12,7 +12,7 @@ use Rattle.cache.specs.Cache.{cellCount}
 use Rattle.ring.specs.Ring.{slotOf}
 use Rattle.log.specs.Stretch.{imageWords, headsAt, stretchAt}
 use Rattle.machine.specs.Image.{imageOf}
-use Rattle.machine.specs.Runs.{Step, answers}
+use Rattle.machine.specs.Runs.{Step, answers, evictSteps}
 use Rattle.recovery.specs.Recover.{recoverOf}
 use Rattle.atomicity.specs.History.{startMachine, machineAfter}
 
@@ -50,8 +50,9 @@ FENCE thread = step 9 thread 0 0
 abbrev pub PRUNE : ℕ → Step
 PRUNE thread = step 10 thread 0 0
 
-abbrev pub EVICT : ℕ → Step
-EVICT line = step 11 0 line 0
+-- the eviction of a line: P4 and P8 "use the eight as well" (document 02)
+abbrev pub EVICT : ℕ → List Step
+EVICT line = evictSteps line
 
 abbrev pub EVICTLOG : ℕ → ℕ → Step
 EVICTLOG thread slot = step 12 thread slot 0
@@ -163,8 +164,8 @@ table =
     -- P3 LOG, STORE: 11
     (answered numbered (LOG 0 5 ∷ STORE 0 5 7 ∷ []) gives 0 ∷ 11 ∷ []) ∷
     -- P4 the line was evicted with the new content, and recovery finds the old one
-    (imaged numbered (logged5 ++ (STORE 0 5 7 ∷ EVICT 0 ∷ [])) 5 gives 7 ∷ []) ∷
-    (recovered numbered (logged5 ++ (STORE 0 5 7 ∷ EVICT 0 ∷ [])) gives 0 ∷ numbered) ∷
+    (imaged numbered (logged5 ++ (STORE 0 5 7 ∷ EVICT 0)) 5 gives 7 ∷ []) ∷
+    (recovered numbered (logged5 ++ (STORE 0 5 7 ∷ EVICT 0)) gives 0 ∷ numbered) ∷
     -- P5 the STORE took the flush away: the image has the old content
     (imaged numbered (logged5 ++ (FLUSH 0 0 ∷ STORE 0 5 7 ∷ FENCE 0 ∷ [])) 5 gives 105 ∷ []) ∷
     -- P6 threads 0 and 1 LOG cell 9, no lock: 8
@@ -172,8 +173,8 @@ table =
     -- P7 all steps are accepted, then PRUNE 1 first: 16
     (answered nine (both ++ (PRUNE 1 ∷ [])) gives replicate 18 0 ++ (16 ∷ [])) ∷
     -- P8 none pruned, line evicted: recovers 3
-    (imaged nine (both ++ (EVICT 1 ∷ [])) 9 gives 5 ∷ []) ∷
-    (recovered nine (both ++ (EVICT 1 ∷ [])) gives 0 ∷ nine) ∷
+    (imaged nine (both ++ EVICT 1) 9 gives 5 ∷ []) ∷
+    (recovered nine (both ++ EVICT 1) gives 0 ∷ nine) ∷
     -- P9 lines flushed and fenced, thread 0 pruned: 4
     (lastAnswered nine (both ++ (FLUSH 0 1 ∷ FENCE 0 ∷ [])) (PRUNE 0) gives 0 ∷ 3 ∷ []) ∷
     (recovered nine (both ++ (FLUSH 0 1 ∷ FENCE 0 ∷ PRUNE 0 ∷ [])) gives 0 ∷ set nine 9 4) ∷
@@ -181,7 +182,7 @@ table =
     (outcome tangled gives 24 ∷ lent) ∷
     (outcome (take 1155 emptyImage) gives 21 ∷ lent) ∷
     -- an evicted line is not durable, nor is a flushed one before its fence: PRUNE 17
-    (lastAnswered nine (makes 0 4 ++ (EVICT 1 ∷ [])) (PRUNE 0) gives 17 ∷ 0 ∷ []) ∷
+    (lastAnswered nine (makes 0 4 ++ EVICT 1) (PRUNE 0) gives 17 ∷ 0 ∷ []) ∷
     (lastAnswered nine (makes 0 4 ++ (FLUSH 0 1 ∷ [])) (PRUNE 0) gives 17 ∷ 0 ∷ []) ∷
     -- a flushed entry is not durable before its fence: STORE 11
     (answered numbered (LOG 0 5 ∷ FLUSHLOG 0 ∷ STORE 0 5 7 ∷ []) gives 0 ∷ 0 ∷ 11 ∷ []) ∷

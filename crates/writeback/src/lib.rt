@@ -1,12 +1,12 @@
-// What is on its way from the cache to persistent memory: lines, by a fence that completes flushes or by an eviction, single cells by an
-// eviction, and how much a fence carries.
+// What is on its way from the cache to persistent memory: lines, by a fence that completes flushes, single cells by an eviction, and how
+// much a fence carries.
 ghost use mathlib.Core.Path.{_≡_};
 ghost use mathlib.Core.Bool.{true};
 ghost use Prim.Native.Nat.{_+_, _<_};
 ghost use lib.ListN.{length};
 ghost use lib.Dec.{eqb};
 ghost use Rattle.answer.specs.Lists.{setFrom, mixFrom};
-ghost use Rattle.cache.specs.Cache.{cellCount, lineCount, lineOf, pendingCount, fenceOf, evictOf, evictCellOf};
+ghost use Rattle.cache.specs.Cache.{cellCount, lineCount, lineOf, pendingCount, fenceOf, evictCellOf};
 ghost use Rattle.tail.specs.Tail.{unfenced};
 use cache::Cache;
 use sizes::CELLS;
@@ -69,17 +69,6 @@ pub fn carried(cache: Cache, tail: Tail, thread: usize) -> u64
     let lines = cache.pending_count(thread);
     let entries = tail.unfenced();
     lines as u64 + entries as u64
-}
-
-// The line's cached content is persisted. No cell becomes durable by it.
-pub fn evict(mut cache: Cache, line: usize) -> Cache
-    ensures { λ r. ⌜ r ≡ evictOf cache line ⌝ }
-{
-    if line < LINES {
-        let cells = cache.cached;
-        copy_line(&cells, &mut cache.persisted, line);
-    }
-    cache
 }
 
 // The cell's cached content alone is persisted. The cell does not become durable by it; one past the last changes nothing.

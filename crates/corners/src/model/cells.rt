@@ -67,18 +67,10 @@ pub(crate) fn is_firm(past: &[u64], cell: u64, before: usize) -> bool {
     stored < last_fence(past, cell / 8, before)
 }
 
-// The last eviction of the cell, with its line or alone, and 0 where there is none.
-fn last_eviction(past: &[u64], cell: u64, before: usize) -> usize {
-    let line = history::last(past, history::EVICT, ANY, cell / 8, before);
-    let alone = history::last(past, history::EVICTCELL, ANY, cell, before);
-    if line < alone { alone } else { line }
-}
-
-// A cell's kept content: what was seen in it when it was last kept, with its line by a FENCE or an EVICT or alone by an EVICTCELL, or the
-// start cell.
+// A cell's kept content: what was seen in it when it was last kept, with its line by a FENCE or alone by an EVICTCELL, or the start cell.
 pub(crate) fn kept(start: &[u64], past: &[u64], cell: u64, before: usize) -> u64 {
     let fenced = last_fence(past, cell / 8, before);
-    let evicted = last_eviction(past, cell, before);
+    let evicted = history::last(past, history::EVICTCELL, ANY, cell, before);
     if fenced < evicted {
         return seen(start, past, cell, evicted);
     }

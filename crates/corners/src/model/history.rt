@@ -22,13 +22,14 @@ pub(crate) const FENCE: u64 = 9;
 
 pub(crate) const PRUNE: u64 = 10;
 
-pub(crate) const EVICT: u64 = 11;
-
 pub(crate) const EVICTLOG: u64 = 12;
 
 pub(crate) const EVICTCELL: u64 = 13;
 
 pub(crate) const EVICTWORDS: u64 = 14;
+
+// The number between those of the kinds that no kind has.
+pub(crate) const RETIRED: u64 = 11;
 
 // More kinds to look for, which no step has that is tried: a step that makes an entry (LOG, ACQUIRE or LOGREL), a STORE to any cell of the
 // line that is the place, and a LOG that makes an entry.

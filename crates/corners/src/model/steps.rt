@@ -16,9 +16,6 @@ fn place_count(kind: u64) -> u64 {
     if kind == history::FLUSH {
         return 16;
     }
-    if kind == history::EVICT {
-        return 16;
-    }
     if kind == history::EVICTCELL {
         return 128;
     }
@@ -48,7 +45,7 @@ fn is_misused(kind: u64, thread: u64, place: u64, value: u64) -> bool {
     if place_count(kind) == 0 {
         return place != 0;
     }
-    if kind == history::EVICT || kind == history::EVICTCELL {
+    if kind == history::EVICTCELL {
         return thread != 0;
     }
     false
@@ -60,7 +57,7 @@ fn input_refusal(kind: u64, thread: u64, place: u64, value: u64) -> u64 {
     if kind < 1 {
         return 1;
     }
-    if history::EVICTWORDS < kind {
+    if kind == history::RETIRED || history::EVICTWORDS < kind {
         return 1;
     }
     if 3 < thread {

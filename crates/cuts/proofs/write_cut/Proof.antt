@@ -1,7 +1,4 @@
 -- `cuts::write_cut` meets its contract: every choice is found alike, so their number is that of all that are tried.
-use mathlib.Core.Path.{subst⁻¹}
-use Rattle.machine.specs.Runs.{Reached}
-use Rattle.cuts.proofs.EvictedImage.{after-reached}
 use Rattle.cuts.proofs.AlikeLaws.{cut-found}
 use borrow.Author.Needs.{needs}
 use Rattle.cuts.proofs.write_cut.Statement.{statement}
@@ -13,16 +10,11 @@ slice-aggregate-cut c = search needs
 cut-requires : tie.Need-cut-requires
 cut-requires c κs = search needs
 
-evict-all-requires : tie.Need-evict-all-requires
-evict-all-requires c κs = search needs
+slice-aggregate-cut-evicted : tie.Need-slice-aggregate-cut-evicted
+slice-aggregate-cut-evicted c = search needs
 
-slice-aggregate-cut-2 : tie.Need-slice-aggregate-cut-2
-slice-aggregate-cut-2 c = search needs
-
-cut-requires-2 : tie.Need-cut-requires-2
-cut-requires-2 c κs =
-    let start = c .before .before .before .before .before .before in
-    subst⁻¹ Reached (c .before .evict-all .ensures) (after-reached (start .args .machine) _ (start .pre))
+cut-evicted-requires : tie.Need-cut-evicted-requires
+cut-evicted-requires c κs = search needs
 
 slice-aggregate-recover : tie.Need-slice-aggregate-recover
 slice-aggregate-recover c = search needs
@@ -70,12 +62,11 @@ returns c =
     let seen = counted .before .before .before .before .before .before in
     let kept = seen .before .before .before .before in
     let cutSeen = kept .before .before .before .before in
-    let evicted = cutSeen .before .before in
-    let cut = evicted .before .before in
+    let cut = cutSeen .before .before .before in
     let start = cut .before .before .before in
     let args = start .args in
-    cut-found (args .machine) (evicted .evict-all .result) (args .number) (args .place) (args .output .now) (start .pre)
-    (cut .cut .ensures) (evicted .evict-all .ensures) (cutSeen .cut2 .ensures) (kept .recover .ensures) (seen .recover2 .ensures)
+    cut-found (args .machine) (args .number) (args .place) (args .output .now) (start .pre)
+    (cut .cut .ensures) (cutSeen .cut-evicted .ensures) (kept .recover .ensures) (seen .recover2 .ensures)
     (counted .alike-choices .ensures) (differ .not-zero .ensures) (c .before .before .write-cut-line .ensures)
 
 pub write-cut-spec : {M : Type 1} → statement M
@@ -84,9 +75,8 @@ write-cut-spec =
     (tie.spec
     slice-aggregate-cut
     cut-requires
-    evict-all-requires
-    slice-aggregate-cut-2
-    cut-requires-2
+    slice-aggregate-cut-evicted
+    cut-evicted-requires
     slice-aggregate-recover
     slice-aggregate-recover-2
     recover-requires

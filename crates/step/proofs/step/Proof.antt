@@ -5,7 +5,7 @@ use mathlib.Core.Logic.{⊎-elim}
 use native.Mathlib.Omega.{arith}
 use borrow.Author.Needs.{needs}
 use Rattle.answer.specs.Answer.{numberOf}
-use Rattle.kinds.specs.Kinds.{LOAD, LOG, ACQUIRE, LOGREL, RELEASE, FLUSH, FLUSHLOG, FENCE, PRUNE, EVICT, EVICTLOG, EVICTCELL, kindOf}
+use Rattle.kinds.specs.Kinds.{LOAD, LOG, ACQUIRE, LOGREL, RELEASE, FLUSH, FLUSHLOG, FENCE, PRUNE, EVICTLOG, EVICTCELL, kindOf}
 use Rattle.kinds.specs.Kinds.{inputAnswer}
 use Rattle.kinds.proofs.Inputs.{unused-thread, unused-place, unused-value, last-kind}
 use Rattle.machine.proofs.Inputs.{input-refused}
@@ -61,9 +61,6 @@ fence-requires c κs = c .before .before .before .before .pre
 
 prune-requires : tie.Need-prune-requires
 prune-requires c κs = c .before .before .before .before .pre
-
-evict-requires : tie.Need-evict-requires
-evict-requires c κs = c .before .before .before .before .pre
 
 evict-log-requires : tie.Need-evict-log-requires
 evict-log-requires c κs = c .before .before .before .before .pre
@@ -163,26 +160,14 @@ returns-11 : tie.Need-returns-11
 unfolding kindOf
 returns-11 c =
     let a = c .before .before .before .before .before .args in
-    let is = of-kind (c .before .before) 11 (omega arith) (c .before .match .keys11) in
-    c .evict .ensures ∙
-    rw (
-      unused-thread (a .thread) (a .place) (a .value) (a .kind) 11 EVICT refl (is .0) (is .1) refl,
-      unused-value (a .thread) (a .place) (a .value) (a .kind) 11 EVICT refl (is .0) (is .1) refl,
-      is .0,
-    )
+    let is = of-kind (c .before .before) 12 (omega arith) (c .before .match .keys11) in
+    c .evict-log .ensures ∙ rw (unused-value (a .thread) (a .place) (a .value) (a .kind) 12 EVICTLOG refl (is .0) (is .1) refl, is .0)
 
 returns-12 : tie.Need-returns-12
 unfolding kindOf
 returns-12 c =
     let a = c .before .before .before .before .before .args in
-    let is = of-kind (c .before .before) 12 (omega arith) (c .before .match .keys12) in
-    c .evict-log .ensures ∙ rw (unused-value (a .thread) (a .place) (a .value) (a .kind) 12 EVICTLOG refl (is .0) (is .1) refl, is .0)
-
-returns-13 : tie.Need-returns-13
-unfolding kindOf
-returns-13 c =
-    let a = c .before .before .before .before .before .args in
-    let is = of-kind (c .before .before) 13 (omega arith) (c .before .match .keys13) in
+    let is = of-kind (c .before .before) 13 (omega arith) (c .before .match .keys12) in
     c .evict-cell .ensures ∙
     rw (
       unused-thread (a .thread) (a .place) (a .value) (a .kind) 13 EVICTCELL refl (is .0) (is .1) refl,
@@ -190,15 +175,15 @@ returns-13 c =
       is .0,
     )
 
-returns-14 : tie.Need-returns-14
+returns-13 : tie.Need-returns-13
 unfolding kindOf
-returns-14 c =
-    let is = of-kind (c .before .before) 14 (omega arith) (c .before .match .keys14) in
+returns-13 c =
+    let is = of-kind (c .before .before) 14 (omega arith) (c .before .match .keys13) in
     c .evict-words .ensures ∙ rw (is .0)
 
 -- no kind is known: the input was refused
-returns-15 : tie.Need-returns-15
-returns-15 c =
+returns-14 : tie.Need-returns-14
+returns-14 c =
     let j = c .before in
     let a = j .before .before .before .args in
     let asked = j .before .before .input-answer .ensures in
@@ -207,13 +192,12 @@ returns-15 c =
     (λ accepted.
     let isKnown = ap numberOf (sym asked) ∙ (sym (j .before .number .ensures) ∙ accepted .0 .taken) in
     let not : (number : ℕ) → (j .if1 .known ≡ number → ⊥) → a .kind ≡ number → ⊥ = λ number differs is. differs (accepted .1 ∙ is) in
-    let earlier = other .0 .0 .0 .0 .0 .0 in
+    let earlier = other .0 .0 .0 .0 .0 in
     let last =
     last-kind (a .thread) (a .place) (a .value) (a .kind) isKnown (not 1 (earlier .0 .0 .0 .0 .0 .0 .0 .1))
     (not 2 (earlier .0 .0 .0 .0 .0 .0 .1)) (not 3 (earlier .0 .0 .0 .0 .0 .1)) (not 4 (earlier .0 .0 .0 .0 .1))
     (not 5 (earlier .0 .0 .0 .1)) (not 6 (earlier .0 .0 .1)) (not 7 (earlier .0 .1)) (not 8 (earlier .1))
-    (not 9 (other .0 .0 .0 .0 .0 .1)) (not 10 (other .0 .0 .0 .0 .1)) (not 11 (other .0 .0 .0 .1))
-    (not 12 (other .0 .0 .1)) (not 13 (other .0 .1)) in
+    (not 9 (other .0 .0 .0 .0 .1)) (not 10 (other .0 .0 .0 .1)) (not 12 (other .0 .0 .1)) (not 13 (other .0 .1)) in
     absurd (not 14 (other .1) last))
     (λ refused. rw asked
     (sym (input-refused (a .machine) (a .thread) (a .place) (a .value) (a .kind)
@@ -236,7 +220,6 @@ step-spec =
     flush-log-requires
     fence-requires
     prune-requires
-    evict-requires
     evict-log-requires
     evict-cell-requires
     evict-words-requires
@@ -253,5 +236,4 @@ step-spec =
     returns-11
     returns-12
     returns-13
-    returns-14
-    returns-15)
+    returns-14)

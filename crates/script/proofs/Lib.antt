@@ -1,0 +1,2 @@
+-- Laws of what a text line does.
+pub mod ScriptLaws
