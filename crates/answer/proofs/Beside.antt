@@ -9,6 +9,7 @@ use Rattle.answer.specs.declared.Answer.the-variants.{Accepted, NoSuchKi
 use Rattle.answer.specs.declared.Answer.the-variants.{LogFull, LsnsUsedUp, Releasing, Race, NotLogged, EntryNotDurable}
 use Rattle.answer.specs.declared.Answer.the-variants.{LockHeld, LockNotHeld, NotReleasing, NothingToPrune, EarlierReleaseNotPruned}
 use Rattle.answer.specs.declared.Answer.the-variants.{CellNotDurable, NoLiveEntry, Unreadable, WrongLength, BadHead, BadEntry, Cyclic}
+use Rattle.answer.specs.declared.Answer.the-variants.{TooManyCells}
 
 -- the answer is an acceptance
 pub record IsAccepted (answer : Answer) : Type 0 where
@@ -40,6 +41,7 @@ accepted-or-zero WrongLength = inr refl
 accepted-or-zero BadHead = inr refl
 accepted-or-zero BadEntry = inr refl
 accepted-or-zero Cyclic = inr refl
+accepted-or-zero TooManyCells = inr refl
 
 pub beside-a-refusal : (answer : Answer) → isAccepted answer ≡ false → valueOf answer ≡ 0
 beside-a-refusal answer refuses =

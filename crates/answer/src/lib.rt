@@ -25,12 +25,13 @@ pub enum Answer {
     EarlierReleaseNotPruned,
     CellNotDurable,
     NoLiveEntry,
-    // A line of text, a buffer or an image that can't be used.
+    // A line of text, a buffer, an image or a list of cells that can't be used.
     Unreadable,
     WrongLength,
     BadHead,
     BadEntry,
     Cyclic,
+    TooManyCells,
 }
 
 // Document 01's number of an answer.
@@ -62,6 +63,7 @@ pub fn number(answer: Answer) -> u64
         Answer::BadHead => 22,
         Answer::BadEntry => 23,
         Answer::Cyclic => 24,
+        Answer::TooManyCells => 25,
     }
 }
 

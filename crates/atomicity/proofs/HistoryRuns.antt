@@ -11,16 +11,13 @@ use borrow.Author.Tests.{ltb-true, eqb-true, not-false}
 use Rattle.sizes.specs.Sizes.{threadCount}
 use Rattle.answer.specs.Answer.{isAccepted}
 use Rattle.answer.proofs.RefusalLaws.{AllFail, allFail-right}
-use Rattle.machine.specs.Effects.{loadEffect, firstLogEffect, storeEffect, acquireEffect, logReleaseEffect, releaseEffect, flushEffect}
-use Rattle.machine.specs.Effects.{flushLogEffect, fenceEffect, pruneEffect, evictLogEffect, evictCellEffect, effect}
-use Rattle.machine.specs.Effects.{evictWordsEffect}
+use Rattle.machine.specs.Effects.{effect}
 use Rattle.kinds.specs.Kinds.{Kind, LOAD, LOG, STORE, ACQUIRE, LOGREL, RELEASE, FLUSH, FLUSHLOG, FENCE, PRUNE, EVICTLOG}
 use Rattle.kinds.specs.Kinds.{EVICTCELL, EVICTWORDS, kindOf, fieldsOf, isOver, countTests, inputTests}
 use Rattle.machine.specs.Refusals.{stateTests}
 use Rattle.machine.specs.Runs.{Step, stepWith, after}
 use Rattle.machine.specs.declared.Machine.{Machine}
-use Rattle.machine.proofs.LogCases.{log-cases}
-use Rattle.machine.proofs.StepLaws.{testsOf, step-cases}
+use Rattle.machine.proofs.StepLaws.{testsOf, step-cases, effect-accepted}
 use Rattle.atomicity.specs.History.{Fed, fedWith, historyOf}
 use Rattle.atomicity.proofs.Ordered.{andThen}
 
@@ -79,26 +76,6 @@ module _ (machine : Machine) (kind : Kind) (thread place value : ℕ) (fails : A
   pub state-fails : AllFail (stateTests machine kind thread place)
   unfolding inputTests
   state-fails = allFail-right (countTests (fieldsOf kind .value) value) (stateTests machine kind thread place) (fails .1 .1 .1)
-
--- an effect's answer is acceptance
-pub effect-accepted : (machine : Machine) (kind : Kind) (thread place value : ℕ) →
-    isAccepted (effect machine kind thread place value .answer) ≡ true
-unfolding effect loadEffect firstLogEffect storeEffect acquireEffect logReleaseEffect releaseEffect flushEffect
-    flushLogEffect fenceEffect pruneEffect evictLogEffect evictCellEffect evictWordsEffect
-effect-accepted machine LOAD thread place value = refl
-effect-accepted machine LOG thread place value =
-    log-cases (λ stepped. isAccepted (stepped .answer) ≡ true) machine thread place (λ isNowhere. refl) (λ number isAt. refl)
-effect-accepted machine STORE thread place value = refl
-effect-accepted machine ACQUIRE thread place value = refl
-effect-accepted machine LOGREL thread place value = refl
-effect-accepted machine RELEASE thread place value = refl
-effect-accepted machine FLUSH thread place value = refl
-effect-accepted machine FLUSHLOG thread place value = refl
-effect-accepted machine FENCE thread place value = refl
-effect-accepted machine PRUNE thread place value = refl
-effect-accepted machine EVICTLOG thread place value = refl
-effect-accepted machine EVICTCELL thread place value = refl
-effect-accepted machine EVICTWORDS thread place value = refl
 
 -- what is kept by each refused step and by each effect whose tests all failed
 module _ (P : Machine → List Fed → Type 0)

@@ -2,6 +2,7 @@
 ghost use mathlib.Core.Path.{_≡_};
 ghost use lib.ListN.{length};
 ghost use Rattle.machine.specs.Runs.{Reached};
+use crate::calls::called_alike;
 use crate::damage::damage;
 use crate::listings::STEPS;
 use crate::listings::Step;
@@ -21,13 +22,16 @@ use sizes::CELLS;
 use step::step;
 
 // What every cell holds at the start.
-const START: u64 = 4294967291;
+pub(crate) const START: u64 = 4294967291;
 
 // What a lent buffer holds before a recovery.
 const UNTOUCHED: u64 = 4294967279;
 
-// No answer of recovery: the machine's and the model's are not the same.
-const DIFFERENT: u64 = 99;
+// The number of no answer: the machine's and the model's are not the same.
+pub(crate) const DIFFERENT: u64 = 99;
+
+// The words of a history: the steps of a listing, and those of a call tried after them.
+pub(crate) const PAST: usize = 872;
 
 // The two lists are the same.
 fn same(one: &[u64], other: &[u64]) -> bool {
@@ -212,17 +216,22 @@ fn recovered_damaged(image: &[u64; IMAGE_WORDS], chance: u64) -> u64 {
     recovered_part(&wide, image_words(other / 7), other / 3)
 }
 
-// The machine's image is the model's after this history. Counts the cut where the image has a torn entry.
-fn is_image(image: &[u64], past: &[u64], met: &mut [u64; COUNTS]) -> bool {
+// The machine's image is the model's after this history.
+pub(crate) fn is_image(image: &[u64], past: &[u64]) -> bool {
     let start = [START; CELLS];
     let mut other = [0u64; IMAGE_WORDS];
     model::cut(&start, past, &mut other);
+    same(image, &other)
+}
+
+// The same, and counts the cut where the image has a torn entry.
+fn is_counted_image(image: &[u64], past: &[u64], met: &mut [u64; COUNTS]) -> bool {
     tally::add_torn(
         met,
         model::has_torn_entry(past, false),
         model::has_torn_entry(past, true),
     );
-    same(image, &other)
+    is_image(image, past)
 }
 
 // The machine's image is the model's, after a history that is the first accepted steps of a list.
@@ -231,7 +240,7 @@ fn image_alike(image: &[u64], past: &[u64], accepted: usize, met: &mut [u64; COU
         return false;
     }
     let end = accepted * 4;
-    is_image(image, &past[..end], met)
+    is_counted_image(image, &past[..end], met)
 }
 
 // Counts an answer of recovery, and says whether it is one.
@@ -277,7 +286,7 @@ fn fifth_alike(
 }
 
 // The image of a cut of the machine.
-fn image_of(machine: Machine) -> [u64; IMAGE_WORDS]
+pub(crate) fn image_of(machine: Machine) -> [u64; IMAGE_WORDS]
     requires { ⌜ Reached machine ⌝ }
 {
     let mut image = [0u64; IMAGE_WORDS];
@@ -285,18 +294,22 @@ fn image_of(machine: Machine) -> [u64; IMAGE_WORDS]
     image
 }
 
-// The machine and the model take the steps alike, cut before every fifth of them and after the last.
+// The machine and the model take the steps alike, cut before every fifth of them and after the last, with a call before every 25th that
+// logs many cells.
 pub(crate) fn run_alike(steps: &[u64], seed: u64, met: &mut [u64; COUNTS]) -> bool {
     let start = [START; CELLS];
     let started = Machine::start(&start);
     let mut machine = started.machine;
-    let mut past = [0u64; 800];
+    let mut past = [0u64; PAST];
     let mut accepted: usize = 0;
     let count = steps.len() / 4;
     let mut done = 0;
     while done < count {
         let image = image_of(machine);
         if !fifth_alike(done, seed, &image, &past, accepted, met) {
+            return false;
+        }
+        if !called_alike(done, seed, machine, past, accepted, met) {
             return false;
         }
         let wanted = step_of(steps, done);

@@ -5,6 +5,9 @@ ghost use lib.ListN.{length};
 // The steps of a generated listing.
 pub(crate) const STEPS: usize = 200;
 
+// The longest list of cells that a call is tried with: two more than it may have.
+pub(crate) const LISTED: usize = 18;
+
 // The steps of a thread's two or three regions, after which it goes on with other places. Among them are an EVICTWORDS before the entries
 // are firm, and an EVICTCELL before the cell is.
 const STAGES: usize = 26;
@@ -119,6 +122,40 @@ fn last_place(kind: u64) -> u64 {
 // The last number that a step of the kind can have as value, but for STORE, which can have any.
 fn last_value(kind: u64) -> u64 {
     if kind == 14 { 4 } else { 0 }
+}
+
+// A cell of a call that logs many: now and then one of the four that listings use most, or one at or past the last; else any other.
+fn listed_cell(chance: u64) -> u64 {
+    if chance % 64 == 0 {
+        return edge(127, chance / 64);
+    }
+    if chance % 16 == 1 {
+        return place_of(2, chance / 16);
+    }
+    16 + chance / 16 % 112
+}
+
+// The thread of such a call, now and then one at or past the last.
+pub(crate) fn calling_thread(chance: u64) -> u64 {
+    if chance % 16 == 0 {
+        return edge(3, chance / 16);
+    }
+    chance / 16 % 4
+}
+
+// The cells of a call that logs many, of which it may name fewer.
+pub(crate) fn listed_cells(seed: u64) -> [u64; LISTED]
+    ensures { λ r. ⌜ 18 ≡ length r ⌝ }
+{
+    let mut cells = [0u64; LISTED];
+    let mut chance = next(seed);
+    let mut index: usize = 0;
+    while index < LISTED {
+        cells[index] = listed_cell(chance);
+        chance = next(chance);
+        index += 1;
+    }
+    cells
 }
 
 // A number at or past the end of a field's range: the last one in it, one and two past it, far past it, and such as would be in range with

@@ -12,8 +12,8 @@ const RECOVERED: usize = 300;
 
 // The counts: of 15 rows times 20 answers; of twice five answers of recovery; of LOGs that a full log would refuse
 // too; three of accepted LOGs of a cell with an entry in the current region; four of accepted FENCEs; four of accepted EVICTWORDS; two of
-// cuts with a torn entry; and of EVICTCELLs.
-pub(crate) const COUNTS: usize = 325;
+// cuts with a torn entry; of EVICTCELLs; and of calls that log many cells, eight by answers, 19 by lengths and one more.
+pub(crate) const COUNTS: usize = 353;
 
 // The place of the count of LOGs that a full log would refuse too.
 const CROWDED: usize = 310;
@@ -33,6 +33,15 @@ const TORN: usize = 322;
 
 // The place of the count of accepted EVICTCELLs that altered what is kept.
 const UNKEPT: usize = 324;
+
+// Where the counts of calls that log many cells begin: by their answers 0, 2, 3, 5, 7, 8, 25 and any other.
+const CALLS: usize = 325;
+
+// Where the counts of these calls by the length of their list begin, of 0 to 18 cells.
+const LENGTHS: usize = 333;
+
+// The place of the count of these calls that were stopped after an accepted cell.
+const PARTLY: usize = 352;
 
 // Counts one more.
 fn raise(met: &mut [u64; COUNTS], at: usize) {
@@ -114,6 +123,38 @@ pub(crate) fn add_torn(met: &mut [u64; COUNTS], is_over_zeros: bool, is_over_ent
 // Counts an accepted EVICTCELL of a cell whose kept content was not its seen one.
 pub(crate) fn add_cell(met: &mut [u64; COUNTS]) {
     raise(met, UNKEPT);
+}
+
+// The column of an answer to a call that logs many cells.
+fn call_column(answer: u64) -> usize {
+    if answer == 0 {
+        return 0;
+    }
+    if answer == 2 {
+        return 1;
+    }
+    if answer == 3 {
+        return 2;
+    }
+    if answer == 5 {
+        return 3;
+    }
+    if answer == 7 {
+        return 4;
+    }
+    if answer == 8 {
+        return 5;
+    }
+    if answer == 25 { 6 } else { 7 }
+}
+
+// Counts a call with a list of so many cells, of which so many were accepted.
+pub(crate) fn add_call(met: &mut [u64; COUNTS], cells: usize, accepted: u64, answer: u64) {
+    raise(met, CALLS + call_column(answer) % 8);
+    raise(met, LENGTHS + cells % 19);
+    if answer != 0 && 0 < accepted {
+        raise(met, PARTLY);
+    }
 }
 
 // Counts an answer of recovery to an image of a cut or to a damaged one; 0 and 21 to 24 are 0 to 4 modulo 5.
@@ -306,6 +347,22 @@ fn print_noted(met: &[u64; COUNTS]) {
     print_counts(met, TORN, 2);
 }
 
+// Prints the counts of calls that log many cells.
+fn print_calls(met: &[u64; COUNTS]) {
+    io::write_all(
+        1,
+        b"calls that log many cells by answer:\n               0     2     3     5     7     8    25 other\n          ",
+    );
+    print_counts(met, CALLS, 8);
+    io::write_all(1, b"of these stopped after an accepted cell: ");
+    io::print_decimal(1, count(met, PARTLY));
+    io::write_all(
+        1,
+        b"\nby the length of the list, 0 to 18 cells:\n          ",
+    );
+    print_counts(met, LENGTHS, 19);
+}
+
 // Prints the tables and what is missing in them.
 pub(crate) fn print(met: &[u64; COUNTS]) {
     io::write_all(1, b"steps of the generated listings by kind and answer:\n");
@@ -323,6 +380,7 @@ pub(crate) fn print(met: &[u64; COUNTS]) {
     io::write_all(1, b"\nother pairs that were met: ");
     io::print_decimal(1, pairs(met, false, true));
     print_noted(met);
+    print_calls(met);
     io::write_all(
         1,
         b"images by recovery's answer, those of cuts and damaged ones:\n",

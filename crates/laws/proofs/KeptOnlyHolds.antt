@@ -40,11 +40,11 @@ use Rattle.machine.proofs.LogCases.{log-cases}
 use Rattle.machine.proofs.ImageWritten.{reads, cell-at, word-at}
 use Rattle.machine.proofs.Reaching.{after-then}
 use Rattle.machine.proofs.Sizes.{Sized, after-sized}
-use Rattle.machine.proofs.StepLaws.{step-cases}
+use Rattle.machine.proofs.StepLaws.{step-cases, effect-accepted}
 use Rattle.atomicity.specs.History.{startMachine, machineAfter}
 use Rattle.laws.specs.KeptOnly.{isCellWord, isFirstWord, isSlotWord, isHeadWord, isPendingWord, isFlushedWord}
 use Rattle.laws.specs.KeptOnly.{alteredBy, mayAlter, KeptOnly}
-use Rattle.atomicity.proofs.HistoryRuns.{effect-accepted, thread-in-range}
+use Rattle.atomicity.proofs.HistoryRuns.{thread-in-range}
 use Rattle.atomicity.proofs.RunInvariantHolds.{after-run}
 
 -- what a slot of a log keeps

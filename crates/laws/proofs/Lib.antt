@@ -16,3 +16,5 @@ pub mod LogSumHolds
 -- evictions of lines
 pub mod RetiredEvictHolds
 pub mod AnyEvictionHolds
+-- calls that log many cells
+pub mod CallsRecover

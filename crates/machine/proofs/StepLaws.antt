@@ -1,7 +1,7 @@
 -- A step either refuses and changes nothing, or every test of its kind failed and its effect happened.
 use Prim.Native.Nat.{ℕ}
-use mathlib.Core.Path.{_≡_, refl}
-use mathlib.Core.Bool.{false}
+use mathlib.Core.Path.{_≡_, refl, sym, _∙_}
+use mathlib.Core.Bool.{true, false, true≢false}
 use mathlib.Core.List.{List, [], _∷_, _++_}
 use mathlib.Core.Option.{Option, none, some}
 use Rattle.answer.specs.Answer.{isAccepted}
@@ -13,7 +13,9 @@ use Rattle.kinds.proofs.Inputs.{input-refuses}
 use Rattle.append.specs.Append.{roomTests}
 use Rattle.log.specs.Entries.{evictSlotTests}
 use Rattle.accesses.proofs.LogLaws.{log-refuses}
-use Rattle.machine.specs.Effects.{effect}
+use Rattle.machine.specs.Effects.{loadEffect, firstLogEffect, storeEffect, acquireEffect, logReleaseEffect, releaseEffect}
+use Rattle.machine.specs.Effects.{flushEffect, flushLogEffect, fenceEffect, pruneEffect, evictLogEffect, evictCellEffect}
+use Rattle.machine.specs.Effects.{evictWordsEffect, effect}
 use Rattle.machine.specs.Holds.{logOf, clockOf}
 use Rattle.kinds.specs.Kinds.{Kind, LOAD, LOG, STORE, ACQUIRE, LOGREL, RELEASE, FLUSH, FLUSHLOG, FENCE, PRUNE, EVICTLOG}
 use Rattle.kinds.specs.Kinds.{EVICTCELL, EVICTWORDS, kindOf, inputTests}
@@ -24,6 +26,7 @@ use Rattle.machine.specs.Runs.{Step, stepWith, after}
 use Rattle.machine.specs.Steps.{refused, stepOfKind, stepOfOption, stepOf}
 use Rattle.machine.specs.declared.Machine.{Machine}
 use Rattle.machine.specs.declared.Stepped.{Stepped}
+use Rattle.machine.proofs.LogCases.{log-cases}
 
 pub state-refuses : (machine : Machine) (kind : Kind) (thread place : ℕ) → AllRefuse (stateTests machine kind thread place)
 unfolding stateTests loadTests logTests storeTests acquireTests logReleaseTests releaseTests pruneTests roomTests evictSlotTests
@@ -78,6 +81,40 @@ module _ (machine : Machine) (Q : Stepped → Type 0)
       → Q (stepOf machine number thread place value)
   unfolding stepOf
   step-cases number thread place value onEffect = option-cases thread place value (kindOf number) onEffect
+
+-- an effect's answer is acceptance
+pub effect-accepted : (machine : Machine) (kind : Kind) (thread place value : ℕ) →
+    isAccepted (effect machine kind thread place value .answer) ≡ true
+unfolding effect loadEffect firstLogEffect storeEffect acquireEffect logReleaseEffect releaseEffect flushEffect
+    flushLogEffect fenceEffect pruneEffect evictLogEffect evictCellEffect evictWordsEffect
+effect-accepted machine LOAD thread place value = refl
+effect-accepted machine LOG thread place value =
+    log-cases (λ stepped. isAccepted (stepped .answer) ≡ true) machine thread place (λ isNowhere. refl) (λ number isAt. refl)
+effect-accepted machine STORE thread place value = refl
+effect-accepted machine ACQUIRE thread place value = refl
+effect-accepted machine LOGREL thread place value = refl
+effect-accepted machine RELEASE thread place value = refl
+effect-accepted machine FLUSH thread place value = refl
+effect-accepted machine FLUSHLOG thread place value = refl
+effect-accepted machine FENCE thread place value = refl
+effect-accepted machine PRUNE thread place value = refl
+effect-accepted machine EVICTLOG thread place value = refl
+effect-accepted machine EVICTCELL thread place value = refl
+effect-accepted machine EVICTWORDS thread place value = refl
+
+-- a step that is refused changes nothing
+pub refused-stays : (machine : Machine) (number thread place value : ℕ)
+    → isAccepted (stepOf machine number thread place value .answer) ≡ false → stepOf machine number thread place value .machine ≡ machine
+refused-stays machine number thread place value =
+    step-cases
+    machine
+    (λ stepped. isAccepted (stepped .answer) ≡ false → stepped .machine ≡ machine)
+    (λ answer isRefusal refuses. refl)
+    number
+    thread
+    place
+    value
+    (λ kind isKind fails refuses. absurd (true≢false (sym (effect-accepted machine kind thread place value) ∙ refuses)))
 
 -- what each effect keeps, each step keeps
 pub step-keeps : (P : Machine → Type 0) (machine : Machine) → P machine

@@ -28,6 +28,7 @@ use Rattle.prune.specs.Pruning.{pruneTests}
 use Rattle.machine.specs.Runs.{after, answers, evictSteps}
 use Rattle.machine.specs.Steps.{stepOfKind, stepOf}
 use Rattle.script.specs.Script.{scriptOf}
+use Rattle.batch.specs.Batch.{logEach, logCellsOf}
 use Rattle.image.specs.Stored.{storedLogs}
 use Rattle.image.specs.Tests.{isBadHead, isBadEntry, hasBadEntry, imageTests}
 use Rattle.recovery.specs.Recover.{recoverTests, recoverOf}
@@ -51,9 +52,9 @@ unfolding same flatten tab someBelow countBelow setFrom mixFrom unless cacheOf s
     loadedOf loggedCellOf loadEffect firstLogEffect logEffect storeEffect acquireEffect logReleaseEffect releaseEffect
     flushEffect flushLogEffect fenceEffect pruneEffect evictLogEffect evictCellEffect evictWordsEffect
     effect freshMachine startOf imageOf cutOf kindOf inputTests loadTests logTests storeTests acquireTests
-    logReleaseTests releaseTests pruneTests stateTests after answers evictSteps stepOfKind stepOf scriptOf isBadHead isBadEntry hasBadEntry
-    imageTests recoverTests recoverOf storedLogs hasLaterAcquire mayTakeEntry mayTake lowestFrom takeLast takeNext
-    takeMany undoStart undone hasLeft
+    logReleaseTests releaseTests pruneTests stateTests after answers evictSteps stepOfKind stepOf scriptOf logEach
+    logCellsOf isBadHead isBadEntry hasBadEntry imageTests recoverTests recoverOf storedLogs hasLaterAcquire mayTakeEntry
+    mayTake lowestFrom takeLast takeNext takeMany undoStart undone hasLeft
 allGiven [] = true
 allGiven ((found gives asked) ∷ rows) = same found asked && allGiven rows
 

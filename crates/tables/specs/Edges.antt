@@ -1,6 +1,7 @@
--- Document 01's numbers, bounds and orders of tests, with LOG, FENCE, the next slot and the evictions as document 02 has them, as a second
--- table beside that of the P points: each row stands under the words that it is read from. Where steps get to an
--- edge only after very many, or never, a row begins at a machine that is written down; images that no machine makes are written down too.
+-- Document 01's numbers, bounds and orders of tests, with what document 02 says of LOG, FENCE, the next slot, the evictions and many cells
+-- logged in one call, as a second table beside that of the P points: each row stands under the words that it is read from. Where steps get
+-- to an edge only after very many, or never, a row begins at a machine that is written down; images that no machine makes are written down
+-- too.
 use Prim.Native.Nat.{ℕ, _+_, _-_}
 use mathlib.Core.Path.{_≡_}
 use mathlib.Core.Bool.{cond}
@@ -12,7 +13,7 @@ use Rattle.answer.specs.declared.Answer.the-variants.{NoSuchKind, NoSuchThread,
 use Rattle.answer.specs.declared.Answer.the-variants.{LogFull, LsnsUsedUp, Releasing, Race, NotLogged, EntryNotDurable}
 use Rattle.answer.specs.declared.Answer.the-variants.{LockHeld, LockNotHeld, NotReleasing}
 use Rattle.answer.specs.declared.Answer.the-variants.{NothingToPrune, EarlierReleaseNotPruned, CellNotDurable, NoLiveEntry, Unreadable}
-use Rattle.answer.specs.declared.Answer.the-variants.{WrongLength, BadHead, BadEntry, Cyclic}
+use Rattle.answer.specs.declared.Answer.the-variants.{WrongLength, BadHead, BadEntry, Cyclic, TooManyCells}
 use Rattle.ring.specs.Ring.{lsn, nextSlotOf}
 use Rattle.tail.specs.declared.Releasing.the-variants.{Nothing, Lock}
 use Rattle.log.specs.Entries.{zeros, wordsOf}
@@ -24,6 +25,7 @@ use Rattle.machine.specs.Image.{imageOf, cutOf}
 use Rattle.machine.specs.Runs.{Step, stepWith, after, answers}
 use Rattle.machine.specs.declared.Machine.{Machine}
 use Rattle.script.specs.Script.{scriptOf}
+use Rattle.batch.specs.Batch.{logCellsOf}
 use Rattle.recovery.specs.Recover.{recoverOf}
 use Rattle.atomicity.specs.History.{startMachine, machineAfter}
 use Rattle.tables.specs.Points.{step, LOAD, LOG, STORE, ACQUIRE, LOGREL, RELEASE, FLUSH, FLUSHLOG, FENCE, PRUNE, EVICT, EVICTLOG}
@@ -434,7 +436,42 @@ givenRows =
     (map valueOf (LogFull ∷ LsnsUsedUp ∷ Releasing ∷ Race ∷ NotLogged ∷ EntryNotDurable ∷ []) gives replicate 6 0) ∷
     (map valueOf (LockHeld ∷ LockNotHeld ∷ NotReleasing ∷ NothingToPrune ∷ []) gives replicate 4 0) ∷
     (map valueOf (EarlierReleaseNotPruned ∷ CellNotDurable ∷ NoLiveEntry ∷ []) gives replicate 3 0) ∷
-    (map valueOf (Unreadable ∷ WrongLength ∷ BadHead ∷ BadEntry ∷ Cyclic ∷ []) gives replicate 5 0) ∷ []
+    (map valueOf (Unreadable ∷ WrongLength ∷ BadHead ∷ BadEntry ∷ Cyclic ∷ TooManyCells ∷ []) gives replicate 6 0) ∷ []
+
+-- ---- many cells logged in one call
+
+-- what a call answers: how many cells were accepted, the refusal that stopped it, or 0, and the number beside that
+unfoldable pub logsMany : Machine → ℕ → List ℕ → List ℕ
+logsMany machine thread cells =
+    let logged = logCellsOf machine thread cells in
+    logged .count ∷ numberOf (logged .answer) ∷ valueOf (logged .answer) ∷ []
+
+-- slots 1 to 3 of thread 3 in the image, once the entries are firm that a call of thread 3 made
+unfoldable pub enters : List ℕ → List ℕ
+enters cells = words 904 12 (after (logCellsOf start 3 cells .machine) (FLUSHLOG 3 ∷ FENCE 3 ∷ []))
+
+-- "a thread and a lent list of up to 16 cells .. It answers how many were accepted, and the refusal that stopped it, or 0."
+unfoldable pub manyRows : List Row
+manyRows =
+    -- "up to 16", the last cells by the last thread; a list with no cell in it, of any thread
+    (logsMany start 3 (tab 16 (λ index. index + 112)) gives 16 ∷ 0 ∷ 0 ∷ []) ∷
+    (logsMany start 4 [] gives 0 ∷ 0 ∷ 0 ∷ []) ∷
+    -- "25: a list longer than 16, tested first; it changes nothing", also where 2 and 3 would follow
+    (logsMany start 3 (tab 17 (λ index. index)) gives 0 ∷ 25 ∷ 0 ∷ []) ∷
+    (logsMany start 4 (replicate 17 128) gives 0 ∷ 25 ∷ 0 ∷ []) ∷
+    (enters (tab 17 (λ index. index)) gives replicate 12 0) ∷
+    -- "logs them in order"
+    (enters (7 ∷ 5 ∷ 9 ∷ []) gives entry 1 7 107 1 ++ entry 1 5 105 2 ++ entry 1 9 109 3) ∷
+    -- a cell that is logged again is accepted, and appends nothing
+    (logsMany start 3 (5 ∷ 5 ∷ 6 ∷ 5 ∷ []) gives 4 ∷ 0 ∷ 0 ∷ []) ∷
+    (enters (5 ∷ 5 ∷ 6 ∷ 5 ∷ []) gives entry 1 5 105 1 ++ entry 1 6 106 2 ++ entry 0 0 0 0) ∷
+    -- "up to the first refused", by 3, 2, 8, 7 and 6
+    (logsMany start 3 (5 ∷ 6 ∷ 128 ∷ 7 ∷ []) gives 2 ∷ 3 ∷ 0 ∷ []) ∷
+    (enters (5 ∷ 6 ∷ 128 ∷ 7 ∷ []) gives entry 1 5 105 1 ++ entry 1 6 106 2 ++ entry 0 0 0 0) ∷
+    (logsMany start 4 (5 ∷ []) gives 0 ∷ 2 ∷ 0 ∷ []) ∷
+    (logsMany (ran (LOG 1 9 ∷ [])) 0 (5 ∷ 9 ∷ 6 ∷ []) gives 1 ∷ 8 ∷ 0 ∷ []) ∷
+    (logsMany (ran closes7) 3 (5 ∷ []) gives 0 ∷ 7 ∷ 0 ∷ []) ∷
+    (logsMany (fromRank 0 999999) 0 (5 ∷ 6 ∷ 7 ∷ []) gives 2 ∷ 6 ∷ 0 ∷ []) ∷ []
 
 -- ---- what is kept and what is firm
 
@@ -721,7 +758,8 @@ unfoldable pub edges : List Row
 edges =
     inputRows ++
     stateRows ++
-    pruneRows ++ roomRows ++ againRows ++ givenRows ++ keptRows ++ lineRows ++ fenceRows ++ imageRows ++ recoveryRows ++ otherRows
+    pruneRows ++
+    roomRows ++ againRows ++ givenRows ++ manyRows ++ keptRows ++ lineRows ++ fenceRows ++ imageRows ++ recoveryRows ++ otherRows
 
 -- what document 01 asks at its edges is what the definitions give
 abbrev pub Edges : Type 0

@@ -11,11 +11,11 @@ returns c = search needs
 mul-end : tie.Need-mul-end
 mul-end c = search needs
 
-slice-aggregate-is-image : tie.Need-slice-aggregate-is-image
-slice-aggregate-is-image c = simp length-take (omega arith)
+slice-aggregate-is-counted-image : tie.Need-slice-aggregate-is-counted-image
+slice-aggregate-is-counted-image c = simp length-take (omega arith)
 
-is-image-requires : tie.Need-is-image-requires
-is-image-requires c κs = search needs
+is-counted-image-requires : tie.Need-is-counted-image-requires
+is-counted-image-requires c κs = search needs
 
 returns-2 : tie.Need-returns-2
 returns-2 c = search needs
@@ -26,6 +26,6 @@ image-alike-spec =
     (tie.spec
     returns
     mul-end
-    slice-aggregate-is-image
-    is-image-requires
+    slice-aggregate-is-counted-image
+    is-counted-image-requires
     returns-2)

@@ -11,7 +11,7 @@ use Rattle.corners.proofs.alike.run_alike.Tie as tie
 
 abbrev Inv-loop : tie.InvT-loop
 Inv-loop steps seed met₀ machine₀ past₀ accepted₀ count done₀ met machine past accepted done =
-    (done ≤ count) × Reached machine × (length past ≡ 800) × (count < 18446744073709551615)
+    (done ≤ count) × Reached machine × (length past ≡ 872) × (count < 18446744073709551615)
 
 abbrev μ-loop : tie.MeasureT-loop
 μ-loop steps seed met₀ machine₀ past₀ accepted₀ count done₀ met machine past accepted done = count - done
@@ -39,29 +39,35 @@ fifth-alike-requires c κs = search needs
 returns : tie.Need-returns Inv-loop μ-loop
 returns c = search needs
 
+called-alike-requires : tie.Need-called-alike-requires Inv-loop μ-loop
+called-alike-requires c κs = c .before .before .before .before .before .before .before .before .loop .inv .1
+
+returns-2 : tie.Need-returns-2 Inv-loop μ-loop
+returns-2 c = search needs
+
 step-of-requires : tie.Need-step-of-requires Inv-loop μ-loop
 step-of-requires c κs = search needs
 
 step-requires : tie.Need-step-requires Inv-loop μ-loop
-step-requires c κs = c .before .before .before .before .before .before .before .before .loop .inv .1
+step-requires c κs = c .before .before .before .before .before .before .before .before .before .before .before .loop .inv .1
 
 slice-aggregate-judged-alike : tie.Need-slice-aggregate-judged-alike Inv-loop μ-loop
 slice-aggregate-judged-alike c =
     let stepped = c .before .before in
-    let entered = stepped .before .before .before .before .before .before .before .before in
+    let entered = stepped .before .before .before .before .before .before .before .before .before .before .before in
     let inv = entered .before .loop .inv in
     search needs
 
 judged-alike-requires : tie.Need-judged-alike-requires Inv-loop μ-loop
 judged-alike-requires c κs = search needs
 
-returns-2 : tie.Need-returns-2 Inv-loop μ-loop
-returns-2 c = search needs
+returns-3 : tie.Need-returns-3 Inv-loop μ-loop
+returns-3 c = search needs
 
 slice-aggregate-push : tie.Need-slice-aggregate-push Inv-loop μ-loop
 slice-aggregate-push c =
     let stepped = c .before .before .before .before .before .before in
-    let entered = stepped .before .before .before .before .before .before .before .before in
+    let entered = stepped .before .before .before .before .before .before .before .before .before .before .before in
     let inv = entered .before .loop .inv in
     search needs
 
@@ -71,7 +77,7 @@ push-requires c κs = search needs
 add-done : tie.Need-add-done Inv-loop μ-loop
 add-done c =
     let stepped = c .before .before .before .before .before .before .before .before in
-    let entered = stepped .before .before .before .before .before .before .before .before in
+    let entered = stepped .before .before .before .before .before .before .before .before .before .before .before in
     let less = entered .loop-test .taken in
     let inv = entered .before .loop .inv in
     search needs
@@ -79,7 +85,7 @@ add-done c =
 loop-less : tie.Need-loop-less Inv-loop μ-loop
 loop-less c =
     let stepped = c .before .before .before .before .before .before .before .before in
-    let entered = stepped .before .before .before .before .before .before .before .before in
+    let entered = stepped .before .before .before .before .before .before .before .before .before .before .before in
     let less = entered .loop-test .taken in
     let inv = entered .before .loop .inv in
     search needs
@@ -87,7 +93,7 @@ loop-less c =
 loop-again : tie.Need-loop-again Inv-loop μ-loop
 loop-again c =
     let stepped = c .before .before .before .before .before .before .before .before in
-    let entered = stepped .before .before .before .before .before .before .before .before in
+    let entered = stepped .before .before .before .before .before .before .before .before .before .before .before in
     let less = entered .loop-test .taken in
     let inv = entered .before .loop .inv in
     (omega arith, rw (stepped .step .ensures) (step-reached _ _ _ _ _ (inv .1)), search needs, inv .3)
@@ -103,8 +109,8 @@ slice-aggregate-fifth-alike-2 c =
 fifth-alike-requires-2 : tie.Need-fifth-alike-requires-2 Inv-loop μ-loop
 fifth-alike-requires-2 c κs = search needs
 
-returns-3 : tie.Need-returns-3 Inv-loop μ-loop
-returns-3 c = search needs
+returns-4 : tie.Need-returns-4 Inv-loop μ-loop
+returns-4 c = search needs
 
 pub run-alike-spec : {M : Type 1} → statement M
 run-alike-spec =
@@ -119,11 +125,13 @@ run-alike-spec =
     slice-aggregate-fifth-alike
     fifth-alike-requires
     returns
+    called-alike-requires
+    returns-2
     step-of-requires
     step-requires
     slice-aggregate-judged-alike
     judged-alike-requires
-    returns-2
+    returns-3
     slice-aggregate-push
     push-requires
     add-done
@@ -132,4 +140,4 @@ run-alike-spec =
     image-of-requires-2
     slice-aggregate-fifth-alike-2
     fifth-alike-requires-2
-    returns-3)
+    returns-4)

@@ -1,0 +1,2 @@
+-- Laws of a call that logs many cells.
+pub mod BatchLaws
