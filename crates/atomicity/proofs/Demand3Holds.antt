@@ -108,9 +108,10 @@ cut-recovers words steps image buffer isImage isBuffer =
 pub demand-3 : Demand3
 demand-3 words steps cut image buffer within isImage isBuffer = cut-recovers words (take cut steps) image buffer isImage isBuffer
 
--- every lawful order of undoing that takes all present entries ends in the reference model's cells
+-- every order of all present entries of a machine's image undoes to the reference model's cells
 pub any-lawful-order : AnyOrder
-any-lawful-order words steps cut end within undoing allTaken =
+unfolding undoStart
+any-lawful-order words steps cut within order isOrder =
     let runHolds = after-run words (take cut steps) in
     let counted = after-counted words (take cut steps) in
     let start = start-length words in
@@ -121,6 +122,5 @@ any-lawful-order words steps cut end within undoing allTaken =
     (undoStart image .cells)
     (final runHolds counted start)
     (undoable runHolds counted start)
-    end
-    undoing
-    allTaken
+    order
+    isOrder

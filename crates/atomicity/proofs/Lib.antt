@@ -44,9 +44,7 @@ pub mod RunInvariant
 pub mod RunInvariantHolds
 -- undoing
 pub mod Undoable
-pub mod UndoSteps
 pub mod UndoKeeps
-pub mod UndoEnds
 pub mod Undoing
 pub mod UndoExample
 -- image

@@ -33,13 +33,14 @@ use Rattle.machine.proofs.Counts.{Counted, count-bound}
 use Rattle.image.specs.Stored.{StoredLog, storedLogs, storedLog, presentIn, entryKind, entryPlace, entryValue}
 use Rattle.image.specs.Tests.{isBadHead, isBadEntry, hasBadEntry}
 use Rattle.recovery.specs.Undo.{leftOf, undoStart}
+use Rattle.orders.proofs.Timed.{Remains}
 use Rattle.reference.specs.Reference.{Book, emptyBook, openOf, openUnless, write, feed, feedAccepted, cellsOf}
 use Rattle.atomicity.specs.History.{Fed, fedBook}
 use Rattle.atomicity.proofs.Logged.{Entries, Made, Is, IsReleaseOf, IsAcquireOf}
 use Rattle.atomicity.proofs.Leads.{Leads, inThread, byLock, through, leads-pruned}
 use Rattle.atomicity.proofs.OldestLive.{prunedValue, undo-cell, leads-present}
 use Rattle.atomicity.proofs.Times.{Formed, aStore, anAcquire, aRelease}
-use Rattle.atomicity.proofs.Undoable.{Remains, Below, Untouched, Oldest, Undoable, older, handed, joined}
+use Rattle.atomicity.proofs.Undoable.{Below, Untouched, Oldest, Undoable, older, handed, joined}
 use Rattle.atomicity.proofs.LogViews.{logAt}
 use Rattle.atomicity.proofs.RunInvariant.{RunInvariant, bookOf}
 use Rattle.atomicity.proofs.MachineInvariant.{Beginning, Ghost, MachineInvariant, entriesOf}
@@ -431,16 +432,18 @@ module _ {start : Beginning} {machine : Machine} {history : List Fed} (runHolds 
   pub undoable : Undoable (storedLogs image) left (undoStart image .cells) final
   unfolding undoStart
   undoable = record {
-    threads = left-length;
-    few = λ thread inRange. rw (left-is thread inRange) (presents thread inRange .presentMost);
+    timed = record {
+      threads = left-length;
+      few = λ thread inRange. rw (left-is thread inRange) (presents thread inRange .presentMost);
+      time = λ thread index. ghost .time thread (logAt (machine .logs) thread .head .0 + index);
+      olderFirst = λ thread first second less isLeft.
+          machineHolds .times .later thread (logAt (machine .logs) thread .head .0 + first)
+          (logAt (machine .logs) thread .head .0 + second) (made-at thread first (omega arith))
+          (made-at thread second isLeft) (omega arith);
+      handedFirst = λ giver given taker taken hands.
+          machineHolds .locks .inTime (remains-release (hands .release)) (remains-acquire (hands .acquire)) (hands .larger);
+    };
     cellsLength = ap length (reads .cellsAre) ∙ machineHolds .cacheSized .persisted-long;
     finalLength = final-length;
-    time = λ thread index. ghost .time thread (logAt (machine .logs) thread .head .0 + index);
-    olderFirst = λ thread first second less isLeft.
-        machineHolds .times .later thread (logAt (machine .logs) thread .head .0 + first)
-        (logAt (machine .logs) thread .head .0 + second) (made-at thread first (omega arith))
-        (made-at thread second isLeft) (omega arith);
-    handedFirst = λ giver given taker taken hands.
-        machineHolds .locks .inTime (remains-release (hands .release)) (remains-acquire (hands .acquire)) (hands .larger);
     settled = settled-cell;
   }

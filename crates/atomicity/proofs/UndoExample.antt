@@ -10,7 +10,8 @@ use lib.ListN.{set, replicate}
 use lib.Seq.{getD-set-other}
 use Rattle.image.specs.Stored.{StoredLog}
 use Rattle.recovery.specs.Undo.{leftOf}
-use Rattle.atomicity.proofs.Undoable.{Remains, Handed, Below, Oldest, Undoable}
+use Rattle.orders.proofs.Timed.{Remains, Handed}
+use Rattle.atomicity.proofs.Undoable.{Below, Oldest, Undoable}
 
 -- STORE of cell 5 and RELEASE of lock 0 in thread 0, ACQUIRE of lock 0 and STORE of cell 5 in thread 1: kind, place, value, LSN from slot
 -- 1 on
@@ -103,22 +104,24 @@ oldest = record {
 
 pub example-undoable : Undoable exampleLogs examplePresent exampleCells exampleFinal
 example-undoable = record {
-  threads = refl;
-  few = λ thread inRange.
-      by-cases
-      (decLt 64 (leftOf examplePresent thread))
-      (λ over. absurd (omega (arith, each-entry (λ t i. i < 2) (omega arith) (omega arith) (omega arith) (omega arith) thread 64 over)))
-      (λ notOver. omega arith);
+  timed = record {
+    threads = refl;
+    few = λ thread inRange.
+        by-cases
+        (decLt 64 (leftOf examplePresent thread))
+        (λ over. absurd (omega (arith, each-entry (λ t i. i < 2) (omega arith) (omega arith) (omega arith) (omega arith) thread 64 over)))
+        (λ notOver. omega arith);
+    time = exampleTime;
+    olderFirst = λ thread first second order isPresent. omega arith;
+    handedFirst = λ giver given taker taken pair.
+        omega (
+          arith,
+          told giver given 3 (pair .lock) (pair .count) (pair .release) .release refl,
+          told taker taken 2 (pair .lock) (pair .later) (pair .acquire) .acquire refl,
+        );
+  };
   cellsLength = refl;
   finalLength = refl;
-  time = exampleTime;
-  olderFirst = λ thread first second order isPresent. omega arith;
-  handedFirst = λ giver given taker taken pair.
-      omega (
-        arith,
-        told giver given 3 (pair .lock) (pair .count) (pair .release) .release refl,
-        told taker taken 2 (pair .lock) (pair .later) (pair .acquire) .acquire refl,
-      );
   settled = λ cell inRange.
       by-cases
       (ℕ-discrete cell 5)

@@ -1,17 +1,18 @@
 -- What every lawful take of the undo keeps: what is left is closed downward, and a cell of which no STORE is left is as wanted.
-use Prim.Native.Nat.{ℕ, _≤_, _<_}
+use Prim.Native.Nat.{ℕ, _<_}
 use mathlib.Core.Path.{_≡_, _∙_, subst₂}
+use mathlib.Core.Bool.{true}
 use mathlib.Core.Logic.{_⊎_, inl, inr, ⊎-elim, by-cases}
 use mathlib.Core.List.{List}
 use native.Mathlib.Decide.{ℕ-discrete}
 use native.Mathlib.Omega.{arith}
 use lib.ListN.{length, getD}
-use Rattle.sizes.specs.Sizes.{threadCount}
 use Rattle.image.specs.Stored.{StoredLog, storedLog, entryKind, entryPlace}
-use Rattle.recovery.specs.Undo.{Undo, leftOf}
-use Rattle.atomicity.proofs.Undoable.{Remains, Handed, Below, Oldest, Undoable}
-use Rattle.atomicity.proofs.UndoSteps.{lastOf, moved, handed-moved, Takeable, Last, last-says, Taken, taken-within, left-or-last}
-use Rattle.atomicity.proofs.UndoSteps.{remains-or-last}
+use Rattle.recovery.specs.Undo.{Undo, leftOf, mayTake, takeLast}
+use Rattle.orders.proofs.Timed.{Remains, Handed, Partway}
+use Rattle.orders.proofs.UndoSteps.{lastOf, moved, handed-moved, Takeable, mayTake-takeable, Last, last-says, Taken, takeLast-taken}
+use Rattle.orders.proofs.UndoSteps.{taken-within, take-partway, left-or-last, remains-or-last}
+use Rattle.atomicity.proofs.Undoable.{Below, Oldest, Undoable}
 
 -- a STORE of the cell is left
 pub record StoreLeft (logs : List StoredLog) (left : List ℕ) (cell : ℕ) : Type 0 where
@@ -26,8 +27,7 @@ Done logs final undo cell = StoreLeft logs (undo .left) cell ⊎ (getD (undo .ce
 
 -- what holds of every undo that lawful takes lead to
 pub record Midway (logs : List StoredLog) (present final : List ℕ) (undo : Undo) : Type 0 where
-  pub threads : length (undo .left) ≡ threadCount
-  pub within : (thread : ℕ) → leftOf (undo .left) thread ≤ leftOf present thread
+  pub partway : Partway present undo
   pub closed : (giver given taker taken : ℕ) → Handed logs present giver given taker taken →
       taken < leftOf (undo .left) taker → given < leftOf (undo .left) giver
   pub cellsLength : length (undo .cells) ≡ 128
@@ -37,8 +37,7 @@ module _ (logs : List StoredLog) (present cells final : List ℕ) (undoable : Un
   -- before the first take every present entry is left
   pub start-midway : Midway logs present final (record { left = present; cells = cells })
   start-midway = record {
-    threads = undoable .threads;
-    within = λ thread. omega arith;
+    partway = record { threads = undoable .timed .threads; within = λ thread. omega arith };
     closed = λ giver given taker taken pair isLeft. pair .release .isLeft;
     cellsLength = undoable .cellsLength;
     done = λ cell inRange.
@@ -73,7 +72,7 @@ module _ (logs : List StoredLog) (present cells final : List ℕ) (undoable : Un
       done-store : (cell value : ℕ) → cell < 128 → Last logs undo thread 1 cell value → Done logs final after cell
       done-store cell value inRange store =
           let stored : Remains logs present thread (lastOf (undo .left) thread) 1 cell value =
-          moved store (omega (arith, store .isLeft, midway .within thread)) in
+          moved store (omega (arith, store .isLeft, midway .partway .within thread)) in
           ⊎-elim
           (λ untouched. absurd (untouched .noStore thread (lastOf (undo .left) thread) value stored))
           (λ oldest. by-oldest oldest (below-left (oldest .below thread (lastOf (undo .left) thread) value stored) (store .isLeft)))
@@ -114,11 +113,23 @@ module _ (logs : List StoredLog) (present cells final : List ℕ) (undoable : Un
           of-other other = done-other cell inRange (λ value store. other (store .isPlace))
 
       -- a lawful take keeps all that holds of an undo midway
-      pub take-midway : Midway logs present final after
+      take-midway : Midway logs present final after
       take-midway = record {
-        threads = take .threads;
-        within = λ other. omega (arith, midway .within other, taken-within logs undo thread after take other);
+        partway = take-partway logs undo thread after take present (midway .partway);
         closed = closed-kept;
         cellsLength = take .cellsLength ∙ midway .cellsLength;
         done = done-kept;
       }
+
+  -- so does the take of a thread's last entry that `mayTake` allows
+  pub may-midway : (undo : Undo) → Midway logs present final undo → (thread : ℕ) → mayTake logs (undo .left) thread ≡ true →
+      Midway logs present final (takeLast logs undo thread)
+  may-midway undo midway thread may =
+      let takeable = mayTake-takeable logs (undo .left) (midway .partway .threads) thread may in
+      take-midway
+      undo
+      midway
+      thread
+      takeable
+      (takeLast logs undo thread)
+      (takeLast-taken logs undo thread (midway .partway .threads) (takeable .hasEntry))

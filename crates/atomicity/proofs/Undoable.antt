@@ -5,25 +5,9 @@ use mathlib.Core.Path.{_≡_}
 use mathlib.Core.Logic.{_⊎_}
 use mathlib.Core.List.{List}
 use lib.ListN.{length, getD}
-use Rattle.sizes.specs.Sizes.{threadCount}
-use Rattle.image.specs.Stored.{StoredLog, storedLog, entryKind, entryPlace, entryValue}
+use Rattle.image.specs.Stored.{StoredLog}
 use Rattle.recovery.specs.Undo.{leftOf}
-
--- the thread's entry at this index is left, and says this; with the present entries for what is left, it is present
-pub record Remains (logs : List StoredLog) (left : List ℕ) (thread index kind place value : ℕ) : Type 0 where
-  pub isLeft : index < leftOf left thread
-  pub isKind : entryKind (storedLog logs thread) index ≡ kind
-  pub isPlace : entryPlace (storedLog logs thread) index ≡ place
-  pub isValue : entryValue (storedLog logs thread) index ≡ value
-
--- a RELEASE of a lock, and an ACQUIRE of it with a larger count
-pub record Handed (logs : List StoredLog) (left : List ℕ) (giver given taker taken : ℕ) : Type 0 where
-  pub lock : ℕ
-  pub count : ℕ
-  pub later : ℕ
-  pub release : Remains logs left giver given 3 lock count
-  pub acquire : Remains logs left taker taken 2 lock later
-  pub larger : count < later
+use Rattle.orders.proofs.Timed.{Remains, Handed, Timed}
 
 -- the order on present entries: older in one thread or the same, a RELEASE before an ACQUIRE of the lock with a larger count, and all
 -- that follows from these two
@@ -46,12 +30,8 @@ pub record Oldest (logs : List StoredLog) (present final : List ℕ) (cell : ℕ
 
 -- what is asked of logs, present entries and cells so that undoing leads to the final cells
 pub record Undoable (logs : List StoredLog) (present cells final : List ℕ) : Type 0 where
-  pub threads : length present ≡ threadCount
-  pub few : (thread : ℕ) → thread < threadCount → leftOf present thread ≤ 64
+  -- the time at which each entry was made
+  pub timed : Timed logs present
   pub cellsLength : length cells ≡ 128
   pub finalLength : length final ≡ 128
-  -- the time at which each entry was made
-  pub time : ℕ → ℕ → ℕ
-  pub olderFirst : (thread first second : ℕ) → first < second → second < leftOf present thread → time thread first < time thread second
-  pub handedFirst : (giver given taker taken : ℕ) → Handed logs present giver given taker taken → time giver given < time taker taken
   pub settled : (cell : ℕ) → cell < 128 → Untouched logs present cells final cell ⊎ Oldest logs present final cell

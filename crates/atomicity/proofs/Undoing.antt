@@ -17,17 +17,20 @@ use Rattle.image.specs.Stored.{StoredLog, storedLog, storedLogs}
 use Rattle.image.specs.Tests.{isBadHead, hasBadEntry, imageTests}
 use Rattle.recovery.specs.Recover.{recoverTests, recoverOf}
 use Rattle.recovery.specs.Undo.{Undo, takeMany, undoStart, undone, hasLeft}
-use Rattle.atomicity.specs.AnyOrder.{Undoing}
+use Rattle.orders.specs.Orders.{Name, IsOrderOf, undoneBy}
+use Rattle.orders.proofs.OrderLaws.{order-takes}
+use Rattle.orders.proofs.Takes.{Takes, many-takes, takes-cells}
+use Rattle.orders.proofs.UndoEnds.{none-left, all-taken}
+use Rattle.orders.proofs.UndoSteps.{thread-below}
 use Rattle.atomicity.proofs.Undoable.{Undoable}
-use Rattle.atomicity.proofs.UndoSteps.{thread-below}
-use Rattle.atomicity.proofs.UndoKeeps.{StoreLeft, Midway, start-midway}
-use Rattle.atomicity.proofs.UndoEnds.{none-left, many-undoing, may-midway, all-taken}
+use Rattle.atomicity.proofs.UndoKeeps.{StoreLeft, Midway, start-midway, may-midway}
 
 module _ (logs : List StoredLog) (present cells final : List ℕ) (undoable : Undoable logs present cells final) where
-  undoing-midway : {undo end : Undo} → Undoing logs undo end → Midway logs present final undo → Midway logs present final end
-  undoing-midway Undoing.ended midway = midway
-  undoing-midway (Undoing.taking {undo = undo} thread inRange may rest) midway =
-      undoing-midway rest (may-midway logs present cells final undoable undo midway thread may)
+  takes-midway : {undo end : Undo} {order : List Name} → Takes logs undo order end → Midway logs present final undo →
+      Midway logs present final end
+  takes-midway Takes.ended midway = midway
+  takes-midway (Takes.taking {undo = undo} thread inRange may rest) midway =
+      takes-midway rest (may-midway logs present cells final undoable undo midway thread may)
 
   -- with no entry left every cell is as wanted
   midway-ends : (end : Undo) → Midway logs present final end → hasLeft end ≡ false → end .cells ≡ final
@@ -42,19 +45,26 @@ module _ (logs : List StoredLog) (present cells final : List ℕ) (undoable : Un
     where
       no-store : {cell : ℕ} → StoreLeft logs (end .left) cell → ⊥
       no-store found =
-          let inRange = thread-below (end .left) (found .thread) (found .index) (midway .threads) (found .store .isLeft) in
+          let inRange = thread-below (end .left) (found .thread) (found .index) (midway .partway .threads) (found .store .isLeft) in
           omega (arith, found .store .isLeft, none-left end ends (found .thread) inRange)
 
-  -- every lawful order that takes all present entries ends in the final cells
-  pub any-order : (end : Undo) → Undoing logs (record { left = present; cells = cells }) end → hasLeft end ≡ false → end .cells ≡ final
-  any-order end undoing ends = midway-ends end (undoing-midway undoing (start-midway logs present cells final undoable)) ends
+  -- lawful takes that leave nothing end in the final cells
+  takes-end : {order : List Name} (end : Undo) → Takes logs (record { left = present; cells = cells }) order end → hasLeft end ≡ false →
+      end .cells ≡ final
+  takes-end end takes ends = midway-ends end (takes-midway takes (start-midway logs present cells final undoable)) ends
+
+  -- every order of all present entries undoes to the final cells
+  pub any-order : (order : List Name) → IsOrderOf logs present order → undoneBy logs cells order ≡ final
+  any-order order isOrder =
+      let taken = order-takes logs order (record { left = present; cells = cells }) (undoable .timed .threads) isOrder in
+      sym (takes-cells (taken .1)) ∙ takes-end (taken .0) (taken .1) (taken .2)
 
   -- document 01's order takes all present entries, and ends in the final cells
   pub in-order : (hasLeft (takeMany 256 logs (record { left = present; cells = cells })) ≡ false) ×
       (takeMany 256 logs (record { left = present; cells = cells }) .cells ≡ final)
   in-order =
-      let taken = all-taken logs present cells final undoable in
-      (taken, any-order _ (many-undoing logs 256 (record { left = present; cells = cells })) taken)
+      let taken = all-taken logs present (undoable .timed) cells in
+      (taken, takes-end _ (many-takes logs 256 (record { left = present; cells = cells }) .1) taken)
 
 -- recovery of an image whose heads and present entries are good, and that can be undone, is accepted and gives the final cells
 pub recovers : (image buffer final : List ℕ) → length image ≡ 1156 → length buffer ≡ 128

@@ -1,14 +1,21 @@
 -- The logs of an image, as they are read: a head and a stretch for each thread, and how many entries are present.
-use Prim.Native.Nat.{ℕ, _+_, _<_}
+use Prim.Native.Nat.{ℕ, _+_, _≤_, _<_}
 use mathlib.Core.Path.{_≡_, sym, ap, ap₂, _∙_}
 use mathlib.Core.List.{List, []}
 use lib.ListN.{length, getD, length-map}
 use Rattle.sizes.specs.Sizes.{threadCount}
 use Rattle.answer.specs.Lists.{tab}
 use Rattle.answer.proofs.ListLaws.{length-tab, getD-tab, map-tab}
-use Rattle.log.specs.Stretch.{headsAt, stretchOf}
+use Rattle.ring.specs.Ring.{slotCount}
+use Rattle.log.specs.Stretch.{headsAt, stretchOf, holds, presentOf}
+use Rattle.log.proofs.Presence.{present-at-most}
 use Rattle.image.specs.Stored.{StoredLog, storedLogs, presentIn, presentEntries}
 use Rattle.image.specs.Reading.{logOf, logIn}
+
+-- a log has no more present entries than slots
+pub present-few : (log : StoredLog) → presentIn log ≤ slotCount
+unfolding presentOf
+present-few log = present-at-most (holds (log .stretch)) (log .head) slotCount
 
 module _ (image : List ℕ) where
   -- a thread's stretch, from its head on

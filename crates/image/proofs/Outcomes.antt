@@ -9,11 +9,11 @@ use borrow.Author.Tests.{eqb-true, eq-eqb, ne-eqb, not-false}
 use Rattle.sizes.specs.Sizes.{threadCount}
 use Rattle.answer.specs.Answer.{numberOf}
 use Rattle.answer.specs.Lists.{someBelow}
-use Rattle.answer.specs.Refusals.{unless}
+use Rattle.answer.specs.Refusals.{unless, firstRefusal}
 use Rattle.answer.specs.declared.Answer.{Answer}
 use Rattle.answer.specs.declared.Answer.the-variants.{Accepted, WrongLength, BadHead, BadEntry}
 use Rattle.answer.proofs.BelowLaws.{someBelow-none}
-use Rattle.answer.proofs.RefusalLaws.{AllFail, AllRefuse, one-stops, none-stops}
+use Rattle.answer.proofs.RefusalLaws.{AllFail, AllRefuse, unless-both, one-stops, none-stops}
 use Rattle.log.specs.Stretch.{imageWords}
 use Rattle.image.specs.Stored.{presentEntries}
 use Rattle.image.specs.Tests.{isBadHead, hasBadEntry, imageTests}
@@ -70,6 +70,21 @@ module _ (image : List ℕ) where
   tests-refuse : AllRefuse (imageTests image)
   unfolding imageTests
   tests-refuse = (refl, (refl, (refl, tt)))
+
+  -- the answer is the first refusal
+  pub tested-first : answerOf (testedOf image) ≡ firstRefusal (imageTests image)
+  unfolding testedOf firstRefusal
+  tested-first =
+      unless-both
+      (λ one other. answerOf one ≡ other)
+      refused
+      (λ answer. answer)
+      (imageTests image)
+      accepted
+      (Accepted 0)
+      tests-refuse
+      (λ answer refuses. refl)
+      (λ fails. refl)
 
   -- where no test holds the image can be read
   can-read : AllFail (imageTests image) → Readable image

@@ -12,14 +12,12 @@ use lib.ListN.{replicate, set, length-replicate, getD-replicate}
 use lib.Dec.{ltb}
 use Rattle.sizes.specs.Sizes.{threadCount, lockCount}
 use Rattle.ring.specs.Ring.{slotCount}
-use Rattle.log.specs.Stretch.{holds, presentOf}
-use Rattle.log.proofs.Presence.{present-at-most}
 use Rattle.undo.specs.Events.{syncCount}
 use Rattle.undo.specs.declared.SyncCount.{SyncCount}
-use Rattle.image.specs.Stored.{StoredLog, presentIn, presentEntries}
+use Rattle.image.specs.Stored.{presentIn, presentEntries}
 use Rattle.image.specs.Reading.{logIn, entryIn, Good, Readable}
 use Rattle.image.specs.declared.Entry.{Entry}
-use Rattle.image.proofs.LogsRead.{count-present}
+use Rattle.image.proofs.LogsRead.{present-few, count-present}
 use Rattle.image.proofs.GoodEntries.{present-good}
 use Rattle.recovery.specs.Undo.{leftOf}
 use Rattle.recovery.specs.Latest.{latestAcquire, lockOf, rowWith, rowOf, countOf, withCount, laterOf, Remembers}
@@ -30,11 +28,6 @@ use Rattle.recovery.proofs.LatestLaws.{remember-more, remember-same}
 abbrev pub seenOf : List ℕ → ℕ → ℕ → ℕ
 seenOf left place thread =
     cond (ltb (place - thread * slotCount) (leftOf left thread)) (place - thread * slotCount) (leftOf left thread)
-
--- a log has no more present entries than slots
-present-few : (log : StoredLog) → presentIn log ≤ slotCount
-unfolding presentOf
-present-few log = present-at-most (holds (log .stretch)) (log .head) slotCount
 
 seen-some : (left : List ℕ) (place thread : ℕ) → place - thread * slotCount < leftOf left thread →
     seenOf left place thread ≡ place - thread * slotCount

@@ -34,6 +34,7 @@ use Rattle.image.specs.Tests.{isBadHead, isBadEntry, hasBadEntry, imageTests}
 use Rattle.recovery.specs.Recover.{recoverTests, recoverOf}
 use Rattle.recovery.specs.Undo.{hasLaterAcquire, mayTakeEntry, mayTake, lowestFrom, takeLast, takeNext, takeMany, undoStart, undone}
 use Rattle.recovery.specs.Undo.{hasLeft}
+use Rattle.orders.specs.Orders.{undoneBy}
 use Rattle.tables.specs.Points.{Row, _gives_, foundOf, askedOf}
 
 -- two lists have the same words
@@ -54,7 +55,7 @@ unfolding same flatten tab someBelow countBelow setFrom mixFrom unless cacheOf s
     effect freshMachine startOf imageOf cutOf kindOf inputTests loadTests logTests storeTests acquireTests
     logReleaseTests releaseTests pruneTests stateTests after answers evictSteps stepOfKind stepOf scriptOf logEach
     logCellsOf isBadHead isBadEntry hasBadEntry imageTests recoverTests recoverOf storedLogs hasLaterAcquire mayTakeEntry
-    mayTake lowestFrom takeLast takeNext takeMany undoStart undone hasLeft
+    mayTake lowestFrom takeLast takeNext takeMany undoStart undone hasLeft undoneBy
 allGiven [] = true
 allGiven ((found gives asked) ∷ rows) = same found asked && allGiven rows
 

@@ -27,6 +27,7 @@ use Rattle.machine.specs.declared.Machine.{Machine}
 use Rattle.script.specs.Script.{scriptOf}
 use Rattle.batch.specs.Batch.{logCellsOf}
 use Rattle.recovery.specs.Recover.{recoverOf}
+use Rattle.orders.specs.Orders.{Name, name, undoneInOrder}
 use Rattle.atomicity.specs.History.{startMachine, machineAfter}
 use Rattle.tables.specs.Points.{step, LOAD, LOG, STORE, ACQUIRE, LOGREL, RELEASE, FLUSH, FLUSHLOG, FENCE, PRUNE, EVICT, EVICTLOG}
 use Rattle.tables.specs.Points.{EVICTCELL, EVICTWORDS, numbered, lent, leaves, answered, outcome, recovered, withEntry, makes}
@@ -728,6 +729,31 @@ recoveryRows =
     -- "the other kinds always"
     (outcome (logs (entry 2 0 9 1 ++ entry 2 0 0 2 ++ entry 1 0 5 3) [] [] []) gives 0 ∷ set zeroCells 0 5) ∷ []
 
+-- ---- cells that a list of entries undoes to
+
+-- threads 0 and 1 each have one STORE of cell 5, with the contents 1 and 2
+unfoldable pub foreign : List ℕ
+foreign = logs (entry 1 5 1 1) (entry 1 5 2 1) [] []
+
+-- its entries, the lower thread's first, and the higher one's
+abbrev pub lowerFirst : List Name
+lowerFirst = name 0 1 ∷ name 1 1 ∷ []
+
+abbrev pub higherFirst : List Name
+higherFirst = name 1 1 ∷ name 0 1 ∷ []
+
+unfoldable pub orderRows : List Row
+orderRows =
+    -- "for others document 01's order decides" (document 02): it takes the lower thread first, and the other way ends in other cells
+    (outcome foreign gives 0 ∷ set zeroCells 5 2) ∷
+    (undoneInOrder foreign lowerFirst gives set zeroCells 5 2) ∷
+    (undoneInOrder foreign higherFirst gives set zeroCells 5 1) ∷
+    -- "Recovery copies the kept cells", and "A STORE taken writes its value back": of the thread and the rank that are named, no other kind
+    (undoneInOrder (untouched numbered) [] gives numbered) ∷
+    (undoneInOrder (withEntry (untouched numbered) 2 1 8 6 65) (name 2 65 ∷ []) gives set numbered 8 6) ∷
+    (undoneInOrder (logs [] (entry 2 5 1 1 ++ entry 1 7 2 2 ++ entry 3 6 3 3) [] []) (name 1 3 ∷ name 1 2 ∷ name 1 1 ∷ []) gives
+    set zeroCells 7 2) ∷ []
+
 -- ---- threads, locks and lines that are not the lowest: a rule that looks at the lowest one only is wrong
 
 -- a thread's region without a cell, from ACQUIRE to RELEASE
@@ -759,7 +785,8 @@ edges =
     inputRows ++
     stateRows ++
     pruneRows ++
-    roomRows ++ againRows ++ givenRows ++ manyRows ++ keptRows ++ lineRows ++ fenceRows ++ imageRows ++ recoveryRows ++ otherRows
+    roomRows ++
+    againRows ++ givenRows ++ manyRows ++ keptRows ++ lineRows ++ fenceRows ++ imageRows ++ recoveryRows ++ orderRows ++ otherRows
 
 -- what document 01 asks at its edges is what the definitions give
 abbrev pub Edges : Type 0

@@ -15,7 +15,7 @@ use Rattle.answer.specs.Lists.{someBelow}
 use Rattle.answer.proofs.BelowLaws.{someBelow-found, found-someBelow}
 use Rattle.image.specs.Stored.{StoredLog, storedLog, entryKind, entryPlace, entryValue}
 use Rattle.recovery.specs.Undo.{Undo, leftOf, hasLaterAcquire, mayTakeEntry, mayTake, takeLast}
-use Rattle.atomicity.proofs.Undoable.{Remains, Handed}
+use Rattle.orders.proofs.Timed.{Remains, Handed, Partway}
 
 -- the index of a thread's last entry left
 abbrev pub lastOf : List ℕ → ℕ → ℕ
@@ -201,6 +201,11 @@ module _ (logs : List StoredLog) (undo : Undo) (thread : ℕ) (after : Undo) (ta
       (ℕ-discrete other thread)
       (λ same. rw same (omega arith))
       (λ differs. omega (arith, take .others other differs))
+
+  -- so an undo stays one that has no more entries left than are present
+  pub take-partway : (present : List ℕ) → Partway present undo → Partway present after
+  take-partway present partway =
+      record { threads = take .threads; within = λ other. omega (arith, partway .within other, taken-within other) }
 
   -- an entry that was left is left, or is the one taken
   pub left-or-last : (other index : ℕ) → index < leftOf (undo .left) other →

@@ -1,4 +1,4 @@
--- While entries are left one of them may be taken, so document 01's order is a lawful one and takes them all.
+-- Where present entries have times, one may be taken while any is left, so document 01's order takes them all.
 use Prim.Native.Nat.{ℕ, zero, suc, _+_, _*_, _≤_, _<_}
 use mathlib.Core.Path.{_≡_, refl, sym, _∙_}
 use mathlib.Core.Bool.{Bool, true, false, cond, true≢false}
@@ -10,14 +10,13 @@ use native.Mathlib.Omega.{arith}
 use borrow.Author.Tests.{ltb-true, ltb-false}
 use Rattle.sizes.specs.Sizes.{threadCount}
 use Rattle.answer.proofs.BelowLaws.{someBelow-found, someBelow-none}
+use Rattle.ring.specs.Ring.{slotCount}
 use Rattle.image.specs.Stored.{StoredLog}
 use Rattle.recovery.specs.Undo.{Undo, leftOf, mayTake, lowestFrom, takeLast, takeFrom, takeNext, takeMany, hasLeft}
 use Rattle.recovery.proofs.UndoLaws.{lowest-may}
-use Rattle.atomicity.specs.AnyOrder.{Undoing}
-use Rattle.atomicity.proofs.Undoable.{Undoable}
-use Rattle.atomicity.proofs.UndoSteps.{lastOf, thread-below, fails, handed-moved, Takeable, mayTake-takeable, takeable-mayTake}
-use Rattle.atomicity.proofs.UndoSteps.{takeLast-taken, taken-within}
-use Rattle.atomicity.proofs.UndoKeeps.{Midway, start-midway, take-midway}
+use Rattle.orders.proofs.Timed.{Timed, Partway}
+use Rattle.orders.proofs.UndoSteps.{lastOf, thread-below, fails, handed-moved, Takeable, mayTake-takeable, takeable-mayTake}
+use Rattle.orders.proofs.UndoSteps.{takeLast-taken, taken-within, take-partway}
 
 -- a thread that has entries left, and whose time none below the bound that has some exceeds
 record Latest (left time : ℕ → ℕ) (bound : ℕ) : Type 0 where
@@ -81,28 +80,27 @@ pub record Lowest (logs : List StoredLog) (left : List ℕ) : Type 0 where
   pub inRange : thread < threadCount
   pub may : mayTake logs left thread ≡ true
 
-module _ (logs : List StoredLog) (present cells final : List ℕ) (undoable : Undoable logs present cells final)
-    (undo : Undo) (midway : Midway logs present final undo) where
+module _ (logs : List StoredLog) (present : List ℕ) (timed : Timed logs present) (undo : Undo) (partway : Partway present undo) where
   not-later : (thread first second : ℕ) → first ≤ second → second < leftOf present thread →
-      undoable .time thread first ≤ undoable .time thread second
+      timed .time thread first ≤ timed .time thread second
   not-later thread first second order isPresent =
       by-cases
       (ℕ-discrete first second)
       (λ same. rw same (omega arith))
-      (λ differs. omega (arith, undoable .olderFirst thread first second (omega arith) isPresent))
+      (λ differs. omega (arith, timed .olderFirst thread first second (omega arith) isPresent))
 
   -- the last entry of the latest time may be taken: an ACQUIRE that a RELEASE waits for would be later
-  latest-takeable : (latest : Latest (leftOf (undo .left)) (λ thread. undoable .time thread (lastOf (undo .left) thread)) threadCount) →
+  latest-takeable : (latest : Latest (leftOf (undo .left)) (λ thread. timed .time thread (lastOf (undo .left) thread)) threadCount) →
       Takeable logs (undo .left) (latest .thread)
   latest-takeable latest = record {
     hasEntry = latest .hasEntry;
     free = λ taker taken pair.
-        let inRange = thread-below (undo .left) taker taken (midway .threads) (pair .acquire .isLeft) in
+        let inRange = thread-below (undo .left) taker taken (partway .threads) (pair .acquire .isLeft) in
         let notLater = latest .latest taker inRange (omega (arith, pair .acquire .isLeft)) in
         let pairPresent =
-        handed-moved {second = present} pair (omega (arith, midway .within (latest .thread))) (omega (arith, midway .within taker)) in
-        let isLater = undoable .handedFirst (latest .thread) (lastOf (undo .left) (latest .thread)) taker taken pairPresent in
-        let notOver = not-later taker taken (lastOf (undo .left) taker) (omega arith) (omega (arith, midway .within taker)) in
+        handed-moved {second = present} pair (omega (arith, partway .within (latest .thread))) (omega (arith, partway .within taker)) in
+        let isLater = timed .handedFirst (latest .thread) (lastOf (undo .left) (latest .thread)) taker taken pairPresent in
+        let notOver = not-later taker taken (lastOf (undo .left) taker) (omega arith) (omega (arith, partway .within taker)) in
         omega arith;
   }
 
@@ -112,14 +110,14 @@ module _ (logs : List StoredLog) (present cells final : List ℕ) (undoable : Un
   progress isLeft =
       let first = someBelow-found threadCount _ isLeft in
       let latest =
-      find-latest (leftOf (undo .left)) (λ thread. undoable .time thread (lastOf (undo .left) thread)) (first .number)
+      find-latest (leftOf (undo .left)) (λ thread. timed .time thread (lastOf (undo .left) thread)) (first .number)
       (ltb-true 0 _ (first .holds)) threadCount in
       by-lowest
       (lowestFrom logs (undo .left) 0 threadCount)
       refl
       (latest .thread)
-      (thread-below (undo .left) (latest .thread) 0 (midway .threads) (latest .hasEntry))
-      (takeable-mayTake logs (undo .left) (midway .threads) (latest .thread) (latest-takeable latest))
+      (thread-below (undo .left) (latest .thread) 0 (partway .threads) (latest .hasEntry))
+      (takeable-mayTake logs (undo .left) (partway .threads) (latest .thread) (latest-takeable latest))
     where
       by-lowest : (found : Option ℕ) → lowestFrom logs (undo .left) 0 threadCount ≡ found → (latest : ℕ) →
           latest < threadCount → mayTake logs (undo .left) latest ≡ true → Lowest logs (undo .left)
@@ -163,45 +161,26 @@ pub none-left : (undo : Undo) → hasLeft undo ≡ false → (thread : ℕ) → 
 unfolding hasLeft
 none-left undo ends thread inRange = ltb-false 0 _ (someBelow-none threadCount _ ends thread inRange)
 
--- so many takes in document 01's order are lawful ones
-pub many-undoing : (logs : List StoredLog) (count : ℕ) (undo : Undo) → Undoing logs undo (takeMany count logs undo)
-unfolding takeMany takeNext
-many-undoing logs zero undo = Undoing.ended
-many-undoing logs (suc count) undo =
-    by-lowest (lowestFrom logs (undo .left) 0 threadCount) refl (many-undoing logs count)
-  where
-    by-lowest : (found : Option ℕ) → lowestFrom logs (undo .left) 0 threadCount ≡ found →
-        ((after : Undo) → Undoing logs after (takeMany count logs after)) →
-        Undoing logs undo (takeMany count logs (takeFrom logs undo found))
-    by-lowest none noneFound later = later undo
-    by-lowest (some thread) isFound later =
-        let found = lowest-may logs (undo .left) 0 threadCount thread isFound in
-        Undoing.taking thread (omega (arith, found .0)) (found .1) (later (takeLast logs undo thread))
-
-module _ (logs : List StoredLog) (present cells final : List ℕ) (undoable : Undoable logs present cells final) where
-  -- a lawful take keeps what holds midway, and leaves fewer entries in all
-  pub may-midway : (undo : Undo) → Midway logs present final undo → (thread : ℕ) →
-      mayTake logs (undo .left) thread ≡ true → Midway logs present final (takeLast logs undo thread)
-  may-midway undo midway thread may =
-      let takeable = mayTake-takeable logs (undo .left) (midway .threads) thread may in
-      take-midway
+module _ (logs : List StoredLog) (present : List ℕ) where
+  -- a lawful take leaves no more entries than are present, and fewer in all
+  may-partway : (undo : Undo) → Partway present undo → (thread : ℕ) → mayTake logs (undo .left) thread ≡ true →
+      Partway present (takeLast logs undo thread)
+  may-partway undo partway thread may =
+      let takeable = mayTake-takeable logs (undo .left) (partway .threads) thread may in
+      take-partway
       logs
-      present
-      cells
-      final
-      undoable
       undo
-      midway
       thread
-      takeable
       (takeLast logs undo thread)
-      (takeLast-taken logs undo thread (midway .threads) (takeable .hasEntry))
+      (takeLast-taken logs undo thread (partway .threads) (takeable .hasEntry))
+      present
+      partway
 
-  may-less : (undo : Undo) → Midway logs present final undo → (thread : ℕ) → mayTake logs (undo .left) thread ≡ true →
+  may-less : (undo : Undo) → Partway present undo → (thread : ℕ) → mayTake logs (undo .left) thread ≡ true →
       totalOf (takeLast logs undo thread .left) threadCount < totalOf (undo .left) threadCount
-  may-less undo midway thread may =
-      let takeable = mayTake-takeable logs (undo .left) (midway .threads) thread may in
-      let take = takeLast-taken logs undo thread (midway .threads) (takeable .hasEntry) in
+  may-less undo partway thread may =
+      let takeable = mayTake-takeable logs (undo .left) (partway .threads) thread may in
+      let take = takeLast-taken logs undo thread (partway .threads) (takeable .hasEntry) in
       total-less
       (takeLast logs undo thread .left)
       (undo .left)
@@ -209,40 +188,41 @@ module _ (logs : List StoredLog) (present cells final : List ℕ) (undoable : Un
       thread
       (omega (arith, take .fewer, takeable .hasEntry))
       threadCount
-      (thread-below (undo .left) thread 0 (midway .threads) (takeable .hasEntry))
+      (thread-below (undo .left) thread 0 (partway .threads) (takeable .hasEntry))
 
-  -- as many takes as entries are left, in document 01's order, take them all
-  many-ends : (count : ℕ) (undo : Undo) → Midway logs present final undo → totalOf (undo .left) threadCount ≤ count →
-      hasLeft (takeMany count logs undo) ≡ false
-  unfolding takeMany takeNext
-  many-ends zero undo midway enough =
-      fails (hasLeft undo) (λ isLeft.
-      let lowest = progress logs present cells final undoable undo midway isLeft in
-      omega (arith, may-less undo midway (lowest .thread) (lowest .may)))
-  many-ends (suc count) undo midway enough =
-      by-lowest (lowestFrom logs (undo .left) 0 threadCount) refl (many-ends count)
-    where
-      by-lowest : (found : Option ℕ) → lowestFrom logs (undo .left) 0 threadCount ≡ found →
-          ((after : Undo) → Midway logs present final after → totalOf (after .left) threadCount ≤ count →
-          hasLeft (takeMany count logs after) ≡ false) →
-          hasLeft (takeMany count logs (takeFrom logs undo found)) ≡ false
-      by-lowest none noneFound later =
-          let ends = fails (hasLeft undo) (λ isLeft.
-          let lowest = progress logs present cells final undoable undo midway isLeft in
-          Option·none-ne-some (lowest .thread) (sym noneFound ∙ lowest .isLowest)) in
-          later undo midway (omega (arith, total-bounded (undo .left) 0 threadCount (none-left undo ends)))
-      by-lowest (some thread) isFound later =
-          let may = lowest-may logs (undo .left) 0 threadCount thread isFound .1 in
-          later
-          (takeLast logs undo thread)
-          (may-midway undo midway thread may)
-          (omega (arith, may-less undo midway thread may))
+  module _ (timed : Timed logs present) where
+    -- as many takes as entries are left, in document 01's order, take them all
+    many-ends : (count : ℕ) (undo : Undo) → Partway present undo → totalOf (undo .left) threadCount ≤ count →
+        hasLeft (takeMany count logs undo) ≡ false
+    unfolding takeMany takeNext
+    many-ends zero undo partway enough =
+        fails (hasLeft undo) (λ isLeft.
+        let lowest = progress logs present timed undo partway isLeft in
+        omega (arith, may-less undo partway (lowest .thread) (lowest .may)))
+    many-ends (suc count) undo partway enough =
+        by-lowest (lowestFrom logs (undo .left) 0 threadCount) refl (many-ends count)
+      where
+        by-lowest : (found : Option ℕ) → lowestFrom logs (undo .left) 0 threadCount ≡ found →
+            ((after : Undo) → Partway present after → totalOf (after .left) threadCount ≤ count →
+            hasLeft (takeMany count logs after) ≡ false) →
+            hasLeft (takeMany count logs (takeFrom logs undo found)) ≡ false
+        by-lowest none noneFound later =
+            let ends = fails (hasLeft undo) (λ isLeft.
+            let lowest = progress logs present timed undo partway isLeft in
+            Option·none-ne-some (lowest .thread) (sym noneFound ∙ lowest .isLowest)) in
+            later undo partway (omega (arith, total-bounded (undo .left) 0 threadCount (none-left undo ends)))
+        by-lowest (some thread) isFound later =
+            let may = lowest-may logs (undo .left) 0 threadCount thread isFound .1 in
+            later
+            (takeLast logs undo thread)
+            (may-partway undo partway thread may)
+            (omega (arith, may-less undo partway thread may))
 
-  -- four threads have at most 64 present entries each, so 256 takes take all of them
-  pub all-taken : hasLeft (takeMany 256 logs (record { left = present; cells = cells })) ≡ false
-  all-taken =
-      many-ends
-      256
-      (record { left = present; cells = cells })
-      (start-midway logs present cells final undoable)
-      (total-bounded present 64 threadCount (undoable .few))
+    -- four threads have at most 64 present entries each, so 256 takes take all of them
+    pub all-taken : (cells : List ℕ) → hasLeft (takeMany 256 logs (record { left = present; cells = cells })) ≡ false
+    all-taken cells =
+        many-ends
+        256
+        (record { left = present; cells = cells })
+        (record { threads = timed .threads; within = λ thread. omega arith })
+        (total-bounded present slotCount threadCount (timed .few))
