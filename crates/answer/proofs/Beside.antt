@@ -9,7 +9,7 @@ use Rattle.answer.specs.declared.Answer.the-variants.{Accepted, NoSuchKi
 use Rattle.answer.specs.declared.Answer.the-variants.{LogFull, LsnsUsedUp, Releasing, Race, NotLogged, EntryNotDurable}
 use Rattle.answer.specs.declared.Answer.the-variants.{LockHeld, LockNotHeld, NotReleasing, NothingToPrune, EarlierReleaseNotPruned}
 use Rattle.answer.specs.declared.Answer.the-variants.{CellNotDurable, NoLiveEntry, Unreadable, WrongLength, BadHead, BadEntry, Cyclic}
-use Rattle.answer.specs.declared.Answer.the-variants.{TooManyCells}
+use Rattle.answer.specs.declared.Answer.the-variants.{TooManyCells, NotPairs, NotAnOrder}
 
 -- the answer is an acceptance
 pub record IsAccepted (answer : Answer) : Type 0 where
@@ -42,6 +42,8 @@ accepted-or-zero BadHead = inr refl
 accepted-or-zero BadEntry = inr refl
 accepted-or-zero Cyclic = inr refl
 accepted-or-zero TooManyCells = inr refl
+accepted-or-zero NotPairs = inr refl
+accepted-or-zero NotAnOrder = inr refl
 
 pub beside-a-refusal : (answer : Answer) → isAccepted answer ≡ false → valueOf answer ≡ 0
 beside-a-refusal answer refuses =

@@ -7,7 +7,7 @@ use Rattle.answer.specs.declared.Answer.the-variants.{Accepted, NoSuchKi
 use Rattle.answer.specs.declared.Answer.the-variants.{LogFull, LsnsUsedUp, Releasing, Race, NotLogged, EntryNotDurable}
 use Rattle.answer.specs.declared.Answer.the-variants.{LockHeld, LockNotHeld, NotReleasing, NothingToPrune, EarlierReleaseNotPruned}
 use Rattle.answer.specs.declared.Answer.the-variants.{CellNotDurable, NoLiveEntry, Unreadable, WrongLength, BadHead, BadEntry, Cyclic}
-use Rattle.answer.specs.declared.Answer.the-variants.{TooManyCells}
+use Rattle.answer.specs.declared.Answer.the-variants.{TooManyCells, NotPairs, NotAnOrder}
 
 -- the answer's number: 0 is acceptance
 abbrev pub numberOf : Answer → ℕ
@@ -36,6 +36,8 @@ numberOf BadHead = 22
 numberOf BadEntry = 23
 numberOf Cyclic = 24
 numberOf TooManyCells = 25
+numberOf NotPairs = 26
+numberOf NotAnOrder = 27
 
 -- the number beside the answer: the one that document 01 names for an accepted step, and 0 beside a refusal
 abbrev pub valueOf : Answer → ℕ
@@ -64,6 +66,8 @@ valueOf BadHead = 0
 valueOf BadEntry = 0
 valueOf Cyclic = 0
 valueOf TooManyCells = 0
+valueOf NotPairs = 0
+valueOf NotAnOrder = 0
 
 -- the step was accepted
 abbrev pub isAccepted : Answer → Bool

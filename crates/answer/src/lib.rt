@@ -25,13 +25,15 @@ pub enum Answer {
     EarlierReleaseNotPruned,
     CellNotDurable,
     NoLiveEntry,
-    // A line of text, a buffer, an image or a list of cells that can't be used.
+    // A line of text, a buffer, an image, a list of cells or a claimed undo order that can't be used.
     Unreadable,
     WrongLength,
     BadHead,
     BadEntry,
     Cyclic,
     TooManyCells,
+    NotPairs,
+    NotAnOrder,
 }
 
 // Document 01's number of an answer.
@@ -64,6 +66,8 @@ pub fn number(answer: Answer) -> u64
         Answer::BadEntry => 23,
         Answer::Cyclic => 24,
         Answer::TooManyCells => 25,
+        Answer::NotPairs => 26,
+        Answer::NotAnOrder => 27,
     }
 }
 

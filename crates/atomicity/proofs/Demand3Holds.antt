@@ -1,4 +1,4 @@
--- Demand 3 holds, and every lawful order of undoing ends in the same cells.
+-- Demand 3 holds, and every lawful order of undoing ends in the same cells, a claimed one that is accepted too.
 -- The parts: `run-holds` (all concerns, for every list of steps from any beginning), `undoable` (what the image of a cut has), `recovers`
 -- and `any-order` (the undoing lemma), and `before-leads` with `leads-pruned` (committed regions are closed under happens-before).
 use Prim.Native.Nat.{ℕ}
@@ -22,8 +22,11 @@ use Rattle.machine.proofs.StepLaws.{after-keeps}
 use Rattle.image.specs.Stored.{storedLogs}
 use Rattle.recovery.specs.Recover.{recoverOf}
 use Rattle.recovery.specs.Undo.{undoStart}
+use Rattle.order.specs.Check.{pairsOf}
+use Rattle.order.proofs.ClaimsHold.{accepts}
 use Rattle.reference.specs.Reference.{emptyBook, cellsOf, isCommittedAt}
 use Rattle.atomicity.specs.AnyOrder.{AnyOrder}
+use Rattle.atomicity.specs.Undoes.{Undoes}
 use Rattle.atomicity.specs.Demand3.{Recovers, Demand3}
 use Rattle.atomicity.specs.HappensBefore.{RegionBefore}
 use Rattle.atomicity.specs.History.{Fed, stepAt, historyOf, fedBook, machineAfter}
@@ -124,3 +127,11 @@ any-lawful-order words steps cut within order isOrder =
     (undoable runHolds counted start)
     order
     isOrder
+
+-- so does a list that is accepted for a machine's image, and recovery gives these cells
+pub undoes : Undoes
+undoes words steps cut pairs buffer within isBuffer isAccepted =
+    let kept = take cut steps in
+    let isOrder = accepts (imageOf (machineAfter words kept)) pairs .isOrder isAccepted in
+    any-lawful-order words steps cut within (pairsOf pairs) isOrder
+    ∙ sym (run-recovers (after-run words kept) (after-counted words kept) (start-length words) buffer isBuffer .1)

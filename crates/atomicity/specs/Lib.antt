@@ -4,3 +4,4 @@ pub mod HappensBefore
 pub mod Races
 pub mod Demand3
 pub mod AnyOrder
+pub mod Undoes

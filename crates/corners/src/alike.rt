@@ -11,6 +11,8 @@ use crate::listings::put;
 use crate::listings::step_of;
 use crate::model;
 use crate::model::history;
+use crate::orders::CHANGES;
+use crate::orders::orders_alike;
 use crate::tally;
 use crate::tally::COUNTS;
 use answer::Answer;
@@ -34,7 +36,7 @@ pub(crate) const DIFFERENT: u64 = 99;
 pub(crate) const PAST: usize = 872;
 
 // The two lists are the same.
-fn same(one: &[u64], other: &[u64]) -> bool {
+pub(crate) fn same(one: &[u64], other: &[u64]) -> bool {
     if one.len() != other.len() {
         return false;
     }
@@ -176,14 +178,6 @@ fn recovered_somehow(image: &[u64], chance: u64) -> u64 {
     recovered(image)
 }
 
-// The answer of both recoveries of an image's first words, now and then into buffers that are a word too short or too long.
-fn recovered_part(image: &[u64], words: usize, chance: u64) -> u64 {
-    if image.len() < words {
-        return DIFFERENT;
-    }
-    recovered_somehow(&image[..words], chance)
-}
-
 // An image's length, or now and then a word less or more.
 fn image_words(chance: u64) -> usize {
     if chance % 32 == 0 {
@@ -206,14 +200,6 @@ fn widened(image: &[u64; IMAGE_WORDS]) -> [u64; IMAGE_WORDS + 1]
         word += 1;
     }
     wide
-}
-
-// The answer of both recoveries of the image once it is damaged.
-fn recovered_damaged(image: &[u64; IMAGE_WORDS], chance: u64) -> u64 {
-    let mut wide = widened(image);
-    damage(&mut wide, chance);
-    let other = next(chance);
-    recovered_part(&wide, image_words(other / 7), other / 3)
 }
 
 // The machine's image is the model's after this history.
@@ -252,7 +238,28 @@ fn noted(met: &mut [u64; COUNTS], is_damaged: bool, answer: u64) -> bool {
     true
 }
 
-// The machine's image of a cut is the model's, and both recover it alike, as it is and damaged.
+// Both recoveries take an image's first words alike, now and then into buffers that are a word too short or too long, and so do both
+// checkers.
+fn part_alike(image: &[u64], words: usize, chance: u64, met: &mut [u64; COUNTS]) -> bool {
+    if image.len() < words {
+        return false;
+    }
+    let part = &image[..words];
+    if !noted(met, true, recovered_somehow(part, chance)) {
+        return false;
+    }
+    orders_alike(part, CHANGES, chance, met)
+}
+
+// The same for the image once it is damaged.
+fn damaged_alike(image: &[u64; IMAGE_WORDS], chance: u64, met: &mut [u64; COUNTS]) -> bool {
+    let mut wide = widened(image);
+    damage(&mut wide, chance);
+    let other = next(chance);
+    part_alike(&wide, image_words(other / 7), other / 3, met)
+}
+
+// The machine's image of a cut is the model's, and both recover it and mark its undo orders alike, as it is and damaged.
 fn cut_alike(
     image: &[u64; IMAGE_WORDS],
     past: &[u64],
@@ -266,10 +273,14 @@ fn cut_alike(
     if !noted(met, false, recovered(image)) {
         return false;
     }
-    noted(met, true, recovered_damaged(image, chance))
+    if !orders_alike(image, 0, chance, met) {
+        return false;
+    }
+    damaged_alike(image, chance, met)
 }
 
-// The machine's image of every fifth cut is the model's, and both recover it alike, as it is and damaged; other cuts are not tried.
+// The machine's image of every fifth cut is the model's, and both recover it and mark its undo orders alike, as it is and damaged; other
+// cuts are not tried.
 fn fifth_alike(
     number: usize,
     seed: u64,

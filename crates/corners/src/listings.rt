@@ -13,7 +13,7 @@ pub(crate) const LISTED: usize = 18;
 const STAGES: usize = 26;
 
 // The largest number that a field can be given.
-const LARGE: u64 = 18446744073709551615;
+pub(crate) const LARGE: u64 = 18446744073709551615;
 
 // A step's four words.
 pub(crate) struct Step {

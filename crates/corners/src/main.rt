@@ -1,6 +1,6 @@
 // Runs listings on the machine and on the model, with cuts, and says whether the two agree: the corner point that is not marked P, and
 // generated listings; logs many cells in one call on the machine, and one by one on the model; recovers the cuts' images on both, as they
-// are and damaged; and prints how often each answer was met.
+// are and damaged; marks claimed undo orders of these images by the checker and by the model; and prints how often each answer was met.
 ghost use mathlib.Core.Path.{_≡_};
 ghost use lib.ListN.{length};
 
@@ -9,6 +9,7 @@ mod calls;
 mod damage;
 mod listings;
 mod model;
+mod orders;
 mod tally;
 
 use alike::run_alike;

@@ -2,13 +2,15 @@
 // (seen, kept, firm, mark, rank, closing), so that it reads against these pages alone, and names nothing of the machine. It keeps no state:
 // every answer is worked out anew from the start cells and the history of accepted steps, with whole logs, no clock and no counter.
 //
-// `corners` compares answers, numbers given, whole images and recovered cells with the machine's. Every function here is proved to be safe
-// and to end; nothing else is promised of it.
+// `corners` compares answers, numbers given, whole images and recovered cells with the machine's, and answers to claimed undo orders with
+// the checker's. Every function here is proved to be safe and to end; nothing else is promised of it.
 mod cells;
+pub(crate) mod drawing;
+mod happening;
 pub(crate) mod history;
 mod image;
 mod logs;
-mod order;
+pub(crate) mod marking;
 mod recovering;
 mod steps;
 
@@ -85,13 +87,9 @@ pub(crate) fn cut(start: &[u64], past: &[u64], image: &mut [u64]) -> u64 {
     21
 }
 
-// Recovers an image's cells. 21 where a buffer has a wrong length, else 0, 22, 23 or 24; the buffer stays as it was unless the answer
-// is 0.
-pub(crate) fn recover(image: &[u64], cells: &mut [u64]) -> u64 {
+// The number that refuses an image, 21, 22 or 23, and 0 where none does.
+fn image_refusal(image: &[u64]) -> u64 {
     if image.len() != 1156 {
-        return 21;
-    }
-    if cells.len() != 128 {
         return 21;
     }
     if recovering::has_bad_head(image) {
@@ -100,10 +98,51 @@ pub(crate) fn recover(image: &[u64], cells: &mut [u64]) -> u64 {
     if recovering::has_bad_entry(image) {
         return 23;
     }
+    0
+}
+
+// Recovers an image's cells. 21 where a buffer has a wrong length, else 0, 22, 23 or 24; the buffer stays as it was unless the answer
+// is 0.
+pub(crate) fn recover(image: &[u64], cells: &mut [u64]) -> u64 {
+    if cells.len() != 128 {
+        return 21;
+    }
+    let refusal = image_refusal(image);
+    if refusal != 0 {
+        return refusal;
+    }
     let mut found = recovering::kept_cells(image);
     if recovering::is_tangled(image, &mut found) {
         return 24;
     }
     recovering::copy(&found, cells);
     0
+}
+
+// An answer with 0 beside it.
+fn answered(answer: u64) -> Verdict {
+    Verdict { answer, number: 0 }
+}
+
+// Marks a list of pairs, thread and rank, as an undo order of an image: 21 to 23 for the image, 26 for a list "over 512 words or an odd
+// number", and 27 with "the place, from 0, of its first bad pair, or the count of pairs where entries are missing".
+pub(crate) fn mark(image: &[u64], list: &[u64]) -> Verdict {
+    let refusal = image_refusal(image);
+    if refusal != 0 {
+        return answered(refusal);
+    }
+    if 512 < list.len() {
+        return answered(26);
+    }
+    if list.len() % 2 == 1 {
+        return answered(26);
+    }
+    let place = marking::first_bad(image, list);
+    if list.len() / 2 < place {
+        return answered(0);
+    }
+    Verdict {
+        answer: 27,
+        number: place as u64,
+    }
 }

@@ -12,8 +12,9 @@ const RECOVERED: usize = 300;
 
 // The counts: of 15 rows times 20 answers; of twice five answers of recovery; of LOGs that a full log would refuse
 // too; three of accepted LOGs of a cell with an entry in the current region; four of accepted FENCEs; four of accepted EVICTWORDS; two of
-// cuts with a torn entry; of EVICTCELLs; and of calls that log many cells, eight by answers, 19 by lengths and one more.
-pub(crate) const COUNTS: usize = 353;
+// cuts with a torn entry; of EVICTCELLs; of calls that log many cells, eight by answers, 19 by lengths and one more; and of claimed undo
+// orders, twelve rows of eight.
+pub(crate) const COUNTS: usize = 449;
 
 // The place of the count of LOGs that a full log would refuse too.
 const CROWDED: usize = 310;
@@ -42,6 +43,10 @@ const LENGTHS: usize = 333;
 
 // The place of the count of these calls that were stopped after an accepted cell.
 const PARTLY: usize = 352;
+
+// Where the counts of claimed undo orders begin, of those for cuts' images and then of those for damaged ones, six rows each by how the
+// list was changed: by the answers 0, 21, 22, 23 and 26, and by the places beside 27, the first pair's, a later one's and the end.
+const LISTS: usize = 353;
 
 // Counts one more.
 fn raise(met: &mut [u64; COUNTS], at: usize) {
@@ -157,6 +162,26 @@ pub(crate) fn add_call(met: &mut [u64; COUNTS], cells: usize, accepted: u64, ans
     }
 }
 
+// The column of an answer to a claimed undo order of so many pairs, and of the place beside 27; 0 and 21 to 23 are 0 to 3 modulo 5.
+fn list_column(answer: u64, place: u64, pairs: u64) -> usize {
+    if answer < 26 {
+        return (answer % 5) as usize;
+    }
+    if answer == 26 {
+        return 4;
+    }
+    if place == pairs {
+        return 7;
+    }
+    if place == 0 { 5 } else { 6 }
+}
+
+// Counts a claimed undo order of so many pairs, in its row.
+pub(crate) fn add_list(met: &mut [u64; COUNTS], row: u64, answer: u64, place: u64, pairs: usize) {
+    let column = list_column(answer, place, pairs as u64) % 8;
+    raise(met, LISTS + (row % 12) as usize * 8 + column);
+}
+
 // Counts an answer of recovery to an image of a cut or to a damaged one; 0 and 21 to 24 are 0 to 4 modulo 5.
 pub(crate) fn add_recovered(met: &mut [u64; COUNTS], is_damaged: bool, answer: u64) {
     let column = (answer % 5) as usize;
@@ -267,21 +292,6 @@ fn print_part(text: &[u8], from: usize) {
     io::write_all(1, &text[from..to]);
 }
 
-// Prints a row's name, in ten places.
-fn print_name(row: usize) {
-    if row < 7 {
-        print_part(
-            b"LOAD      LOG       STORE     ACQUIRE   LOGREL    RELEASE   FLUSH     ",
-            row * 10,
-        );
-    } else {
-        print_part(
-            b"FLUSHLOG  FENCE     PRUNE     11        EVICTLOG  EVICTCELL EVICTWORDSother     ",
-            (row - 7) % 8 * 10,
-        );
-    }
-}
-
 // Prints so many counts from a place on, as a row.
 fn print_counts(met: &[u64; COUNTS], from: usize, columns: usize) {
     let mut column: usize = 0;
@@ -290,6 +300,18 @@ fn print_counts(met: &[u64; COUNTS], from: usize, columns: usize) {
         column += 1;
     }
     io::write_all(1, b"\n");
+}
+
+// Prints rows of so many counts from a place on, one for each ten bytes of their names.
+fn print_rows(met: &[u64; COUNTS], names: &[u8], from: usize, columns: usize) {
+    let mut name: usize = 0;
+    let mut at = from;
+    while name < names.len() / 10 {
+        print_part(names, name * 10);
+        print_counts(met, at, columns);
+        at = at % 1000 + columns % 100;
+        name += 1;
+    }
 }
 
 // Prints the table of kinds against answers.
@@ -302,24 +324,53 @@ fn print_steps(met: &[u64; COUNTS]) {
         1,
         b"    10    11    12    13    14    15    16    17    18    19\n",
     );
-    let mut row: usize = 0;
-    while row < ROWS {
-        print_name(row);
-        print_counts(met, row % ROWS * ANSWERS, ANSWERS);
-        row += 1;
-    }
+    print_rows(
+        met,
+        b"LOAD      LOG       STORE     ACQUIRE   LOGREL    RELEASE   FLUSH     ",
+        0,
+        ANSWERS,
+    );
+    print_rows(
+        met,
+        b"FLUSHLOG  FENCE     PRUNE     11        EVICTLOG  EVICTCELL EVICTWORDSother     ",
+        7 * ANSWERS,
+        ANSWERS,
+    );
 }
 
 // Prints the table of recovery's answers.
 fn print_recovered(met: &[u64; COUNTS]) {
-    io::write_all(1, b"recovery       0    21    22    23    24\ncut       ");
-    print_counts(met, RECOVERED, 5);
-    io::write_all(1, b"damaged   ");
-    print_counts(met, RECOVERED + 5, 5);
+    io::write_all(1, b"recovery       0    21    22    23    24\n");
+    print_rows(met, b"cut       damaged   ", RECOVERED, 5);
 }
 
-// Prints the counts of LOGs, of FENCEs and of evictions.
-fn print_noted(met: &[u64; COUNTS]) {
+// Prints six rows of answers to claimed undo orders from a place on.
+fn print_changes(met: &[u64; COUNTS], from: usize) {
+    print_rows(
+        met,
+        b"as made   dropped   doubled   swapped   renumberedodd, long ",
+        from,
+        8,
+    );
+}
+
+// Prints the tables of answers to claimed undo orders.
+fn print_lists(met: &[u64; COUNTS]) {
+    io::write_all(
+        1,
+        b"claimed undo orders of cuts' images by answer, 27 by the place beside it, the first pair, a later one or the end:\n",
+    );
+    io::write_all(
+        1,
+        b"list           0    21    22    23    26 first later   end\n",
+    );
+    print_changes(met, LISTS);
+    io::write_all(1, b"and of damaged ones:\n");
+    print_changes(met, LISTS + 48);
+}
+
+// Prints the counts of LOGs.
+fn print_logs(met: &[u64; COUNTS]) {
     io::write_all(1, b"\nLOGs refused by 8 that 5 would refuse too: ");
     io::print_decimal(1, count(met, CROWDED));
     io::write_all(
@@ -331,6 +382,10 @@ fn print_noted(met: &[u64; COUNTS]) {
     io::print_decimal(1, count(met, AGAIN + 1));
     io::write_all(1, b"\nof these with a full log: ");
     io::print_decimal(1, count(met, AGAIN + 2));
+}
+
+// Prints the counts of FENCEs and of evictions.
+fn print_kept(met: &[u64; COUNTS]) {
     io::write_all(
         1,
         b"\naccepted FENCEs that carried nothing, lines, entries, and both:",
@@ -363,10 +418,8 @@ fn print_calls(met: &[u64; COUNTS]) {
     print_counts(met, LENGTHS, 19);
 }
 
-// Prints the tables and what is missing in them.
-pub(crate) fn print(met: &[u64; COUNTS]) {
-    io::write_all(1, b"steps of the generated listings by kind and answer:\n");
-    print_steps(met);
+// Prints how many pairs of a kind and an answer are missing in the table of steps, and how many should be.
+fn print_pairs(met: &[u64; COUNTS]) {
     io::write_all(1, b"zeros among the ");
     io::print_decimal(
         1,
@@ -379,11 +432,20 @@ pub(crate) fn print(met: &[u64; COUNTS]) {
     io::print_decimal(1, pairs(met, true, false));
     io::write_all(1, b"\nother pairs that were met: ");
     io::print_decimal(1, pairs(met, false, true));
-    print_noted(met);
+}
+
+// Prints the tables and what is missing in them.
+pub(crate) fn print(met: &[u64; COUNTS]) {
+    io::write_all(1, b"steps of the generated listings by kind and answer:\n");
+    print_steps(met);
+    print_pairs(met);
+    print_logs(met);
+    print_kept(met);
     print_calls(met);
     io::write_all(
         1,
         b"images by recovery's answer, those of cuts and damaged ones:\n",
     );
     print_recovered(met);
+    print_lists(met);
 }

@@ -18,7 +18,11 @@ use Rattle.cuts.specs.Cuts.{cutText, cutsFrom, cutsOf, cutsIn}
 -- the piece of a step is the cut after it
 pub by-line : LineByLine cutsFrom (λ number stepped. cutText number (stepped .machine))
 unfolding cutsFrom
-by-line = record { on-step = λ machine number kind thread place value lines. refl; on-unreadable = λ machine number lines. refl }
+by-line = record {
+  on-step = λ machine number kind thread place value lines. refl;
+  on-undo = λ machine number thread rank lines. refl;
+  on-unreadable = λ machine number lines. refl;
+}
 
 -- ---- how long the lines of cuts are
 

@@ -9,7 +9,7 @@ use Rattle.machine.specs.declared.Machine.{Machine}
 use Rattle.script.specs.Script.{scriptOf}
 use Rattle.line.specs.Lines.{linesOf}
 use Rattle.line.specs.declared.Line.{Line}
-use Rattle.line.specs.declared.Line.the-variants.{Step, Unreadable}
+use Rattle.line.specs.declared.Line.the-variants.{Step, Undo, Unreadable}
 use Rattle.print.specs.Printed.{resultText, cutLineText}
 use Rattle.listing.specs.Transcript.{mostInput, startMachine, transcriptRoom, Transcript}
 use Rattle.cuts.specs.Tried.{recoveredBy, tried}
@@ -25,12 +25,13 @@ cutText number machine = cutLineText number (length (tried machine)) (notZero (r
 
 -- a cut after each of these lines, of which the first has this number, by this machine; of an old listing's EVICT, "such a line is one
 -- step, cut only after the eight". The next step is taken on the machine without the evictions. "An unreadable line ends it as in document
--- 01."
+-- 01." So does an entry of a claimed undo order, which is no step.
 unfoldable pub cutsFrom : Machine → ℕ → List Line → List ℕ
 cutsFrom machine number [] = []
 cutsFrom machine number (Step kind thread place value ∷ lines) =
     let stepped = scriptOf machine kind thread place value in
     cutText number (stepped .machine) ++ cutsFrom (stepped .machine) (suc number) lines
+cutsFrom machine number (Undo thread rank ∷ lines) = resultText number UnreadableAnswer
 cutsFrom machine number (Unreadable ∷ lines) = resultText number UnreadableAnswer
 
 -- "first `n=0 choices=1 differ=0`"; too long an input prints only its answer, as line 1

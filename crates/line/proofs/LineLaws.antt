@@ -1,18 +1,21 @@
--- Laws of what a line says: a number, one digit at a time.
+-- Laws of what a line says: a number, one digit at a time; its fields, one after the other; and the first line of an input.
 use Prim.Native.Nat.{ℕ, suc, _+_, _-_, _*_, _^_, _≤_, _<_}
 use mathlib.Core.Path.{_≡_, refl, _∙_, ap}
 use mathlib.Core.Bool.{true, false, cond}
 use mathlib.Core.List.{List, [], _∷_}
 use native.Mathlib.Omega.{arith}
 use borrow.Author.Tests.{eq-eqb, ne-eqb, le-leb, lt-leb, lt-ltb, le-ltb}
+use denote.Enum.Declared.{tagOf}
+use types.Run.{OneOf, miss}
 use lib.ListN.{length, getD, take, drop, drop-of-length-le}
 use Rattle.bytes.specs.Bytes.{indexOf}
 use Rattle.line.specs.Text.{ascii, sameText}
-use Rattle.line.specs.Lines.{digitsAfter, numberIn, kindFrom, kindNamed, afterKey, space, newline, before, after, stepLine, lineOf}
-use Rattle.line.specs.Lines.{firstLine}
+use Rattle.line.specs.Lines.{digitsAfter, numberIn, kindFrom, kindNamed, afterKey, space, newline, before, after}
+use Rattle.line.specs.Lines.{stepLine, undoLine, stepIn, undoIn, lineOf, firstLine}
 use Rattle.line.specs.declared.Line.the-variants.{Unreadable}
 use Rattle.line.specs.declared.Field.{Field}
 use Rattle.line.specs.declared.Field.the-variants.{Number, Nothing}
+use Rattle.line.proofs.Field as declared
 use Rattle.line.proofs.TextLaws.{drop-first, part-rest}
 
 -- the number of a name, or what the names after it find
@@ -94,16 +97,40 @@ module _ (key : List ℕ) (says : List ℕ → Field) (text : List ℕ) where
   unfolding afterKey
   key-read begins = rw (begins, part-rest (length key) text)
 
--- a line's four fields, one after the other
-pub line-read : (text : List ℕ) {step thread place value afterStep afterThread : List ℕ} {kind number number' number'' : Field}
+-- a field whose tag is not that of a number says nothing
+pub no-number : (field : Field) → OneOf (1 ∷ []) (tagOf declared.the-type field) → field ≡ Nothing
+no-number (Number number) key = absurd (miss (1 ∷ []) 0 tt key)
+no-number Nothing key = refl
+
+-- a step's four fields, one after the other
+pub step-read : (text : List ℕ) {step thread place value afterStep afterThread : List ℕ} {kind number number' number'' : Field}
     → afterStep ≡ after space text → afterThread ≡ after space afterStep
     → step ≡ before space text → kind ≡ afterKey (ascii "step=") kindNamed step
     → thread ≡ before space afterStep → number ≡ afterKey (ascii "thread=") numberIn thread
     → place ≡ before space afterThread → number' ≡ afterKey (ascii "place=") numberIn place
     → value ≡ after space afterThread → number'' ≡ afterKey (ascii "value=") numberIn value
-    → stepLine kind number number' number'' ≡ lineOf text
-unfolding lineOf
-line-read text e₁ e₂ e₃ e₄ e₅ e₆ e₇ e₈ e₉ e₁₀ = simp (e₄, e₆, e₈, e₁₀, e₃, e₅, e₇, e₉, e₂, e₁)
+    → stepLine kind number number' number'' ≡ stepIn text
+unfolding stepIn
+step-read text e₁ e₂ e₃ e₄ e₅ e₆ e₇ e₈ e₉ e₁₀ = simp (e₄, e₆, e₈, e₁₀, e₃, e₅, e₇, e₉, e₂, e₁)
+
+-- the two fields of an entry of a claimed undo order, one after the other
+pub undo-read : (text : List ℕ) {thread rank afterUndo : List ℕ} {number number' : Field} → afterUndo ≡ after space text
+    → thread ≡ before space afterUndo → number ≡ afterKey (ascii "thread=") numberIn thread
+    → rank ≡ after space afterUndo → number' ≡ afterKey (ascii "rank=") numberIn rank
+    → undoLine number number' ≡ undoIn text
+unfolding undoIn
+undo-read text e₁ e₂ e₃ e₄ e₅ = simp (e₃, e₅, e₂, e₄, e₁)
+
+module _ (text : List ℕ) {word : List ℕ} (first : word ≡ before space text) where
+  -- a line whose first word is `undo` says an entry of a claimed undo order
+  pub says-undo : sameText word (ascii "undo") ≡ true → undoIn text ≡ lineOf text
+  unfolding lineOf
+  says-undo same = rw (← first, same)
+
+  -- a line whose first word is another says a step
+  pub says-step : sameText word (ascii "undo") ≡ false → stepIn text ≡ lineOf text
+  unfolding lineOf
+  says-step other = rw (← first, other)
 
 -- the first line, where it is ended and where not
 pub first-ended : (input : List ℕ) → indexOf newline input < length input → firstLine input ≡ lineOf (take (indexOf newline input) input)

@@ -1,5 +1,5 @@
--- What a line of the input says: "the step's name in capitals, then thread, place and value in decimal below 2^64 without leading
--- zeros, one space between".
+-- What a line of the input says: a step, "the step's name in capitals, then thread, place and value in decimal below 2^64 without leading
+-- zeros, one space between", or, written likewise, an entry of a claimed undo order.
 use Prim.Native.Nat.{ℕ, suc, _+_, _-_, _*_, _^_}
 use mathlib.Core.Bool.{Bool, cond, _&&_}
 use mathlib.Core.List.{List, [], _∷_, _++_}
@@ -10,7 +10,7 @@ use Rattle.line.specs.Text.{ascii, sameText}
 use Rattle.line.specs.declared.Field.{Field}
 use Rattle.line.specs.declared.Field.the-variants.{Number, Nothing}
 use Rattle.line.specs.declared.Line.{Line}
-use Rattle.line.specs.declared.Line.the-variants.{Step, Unreadable}
+use Rattle.line.specs.declared.Line.the-variants.{Step, Undo, Unreadable}
 
 abbrev pub space : ℕ
 space = 32
@@ -70,9 +70,15 @@ stepLine (Number kind) Nothing place value = Unreadable
 stepLine (Number kind) (Number thread) Nothing value = Unreadable
 stepLine (Number kind) (Number thread) (Number place) Nothing = Unreadable
 
--- what a line says, given without its newline
-unfoldable pub lineOf : List ℕ → Line
-lineOf text =
+-- an entry of a claimed undo order, where both of its fields could be read
+unfoldable pub undoLine : Field → Field → Line
+undoLine (Number thread) (Number rank) = Undo thread rank
+undoLine Nothing rank = Unreadable
+undoLine (Number thread) Nothing = Unreadable
+
+-- the step that a line says, as `step=LOG thread=0 place=5 value=0`
+unfoldable pub stepIn : List ℕ → Line
+stepIn text =
     let afterStep = after space text in
     let afterThread = after space afterStep in
     stepLine
@@ -80,6 +86,19 @@ lineOf text =
     (afterKey (ascii "thread=") numberIn (before space afterStep))
     (afterKey (ascii "place=") numberIn (before space afterThread))
     (afterKey (ascii "value=") numberIn (after space afterThread))
+
+-- the entry of a claimed undo order that a line says after its first word, as `undo thread=0 rank=3`: one of document 02's "pairs, thread
+-- and rank"
+unfoldable pub undoIn : List ℕ → Line
+undoIn text =
+    let afterUndo = after space text in
+    undoLine
+    (afterKey (ascii "thread=") numberIn (before space afterUndo))
+    (afterKey (ascii "rank=") numberIn (after space afterUndo))
+
+-- what a line says, given without its newline: an entry of a claimed undo order where its first word is `undo`, and else a step
+unfoldable pub lineOf : List ℕ → Line
+lineOf text = cond (sameText (before space text) (ascii "undo")) (undoIn text) (stepIn text)
 
 -- what the first line of some input says: what has no newline after it can't be read
 unfoldable pub firstLine : List ℕ → Line

@@ -4,16 +4,21 @@ ghost use mathlib.Core.Bool.{cond};
 ghost use Prim.Native.Nat.{_+_, _≤_};
 ghost use lib.ListN.{length, take};
 ghost use Rattle.bytes.specs.Bytes.{indexOf};
-ghost use Rattle.line.specs.Lines.{space, newline, before, after, kindNamed, numberIn, afterKey, stepLine, lineOf, firstLine};
+ghost use Rattle.line.specs.Lines.{space, newline, before, after, kindNamed, numberIn, afterKey, stepLine, undoLine};
+ghost use Rattle.line.specs.Lines.{stepIn, undoIn, lineOf, firstLine};
 ghost use Rattle.line.specs.Text.{ascii, sameText};
 
-// A line says a step, or it can't be read.
+// A line says a step, an entry of a claimed undo order by its thread and its LSN, which the text calls rank, or it can't be read.
 pub enum Line {
     Step {
         kind: u64,
         thread: u64,
         place: u64,
         value: u64,
+    },
+    Undo {
+        thread: u64,
+        rank: u64,
     },
     Unreadable,
 }
@@ -187,9 +192,22 @@ fn step_of(kind: Field, thread: Field, place: Field, value: Field) -> Line
     }
 }
 
-// What a line says, given without its newline.
-pub fn read_line(line: &[u8]) -> Line
-    ensures { λ r. ⌜ r ≡ lineOf (now (line .entry)) ⌝ }
+// The entry of a claimed undo order, of two fields.
+fn undo_of(thread: Field, rank: Field) -> Line
+    ensures { λ r. ⌜ r ≡ undoLine thread rank ⌝ }
+{
+    let Field::Number(thread) = thread else {
+        return Line::Unreadable;
+    };
+    let Field::Number(rank) = rank else {
+        return Line::Unreadable;
+    };
+    Line::Undo { thread, rank }
+}
+
+// The step that a line says.
+fn read_step(line: &[u8]) -> Line
+    ensures { λ r. ⌜ r ≡ stepIn (now (line .entry)) ⌝ }
 {
     let after_step = after_space(line);
     let after_thread = after_space(after_step);
@@ -198,6 +216,26 @@ pub fn read_line(line: &[u8]) -> Line
     let place = number_field(before_space(after_thread), b"place=");
     let value = number_field(after_space(after_thread), b"value=");
     step_of(kind, thread, place, value)
+}
+
+// The entry of a claimed undo order that a line says after its first word.
+fn read_undo(line: &[u8]) -> Line
+    ensures { λ r. ⌜ r ≡ undoIn (now (line .entry)) ⌝ }
+{
+    let after_undo = after_space(line);
+    let thread = number_field(before_space(after_undo), b"thread=");
+    let rank = number_field(after_space(after_undo), b"rank=");
+    undo_of(thread, rank)
+}
+
+// What a line says, given without its newline.
+pub fn read_line(line: &[u8]) -> Line
+    ensures { λ r. ⌜ r ≡ lineOf (now (line .entry)) ⌝ }
+{
+    if same(before_space(line), b"undo") {
+        return read_undo(line);
+    }
+    read_step(line)
 }
 
 // What the first line of the input says.

@@ -1,5 +1,5 @@
 -- Laws of the lines of an input: the first line and those after it, and how many steps an input has room for.
-use Prim.Native.Nat.{ℕ, suc, _+_, _*_, _≤_, _<_}
+use Prim.Native.Nat.{ℕ, suc, _+_, _-_, _*_, _≤_, _<_}
 use mathlib.Core.Path.{_≡_, refl, _∙_, ap, subst⁻¹}
 use mathlib.Core.Bool.{Bool, true, false, cond}
 use mathlib.Core.Logic.{by-cases}
@@ -8,16 +8,17 @@ use native.Mathlib.Decide.{decLt}
 use native.Mathlib.Nat.{suc-add}
 use native.Mathlib.Omega.{arith}
 use lib.ListN.{length, take, drop, drop-of-length-le, length-append, length-take, length-drop}
+use lib.Seq.{drop-drop}
 use lib.Dec.{eqb}
 use Rattle.bytes.specs.Bytes.{indexOf, indexAfter}
 use Rattle.line.specs.Text.{ascii, sameText}
-use Rattle.line.specs.Lines.{space, newline, before, after, names, kindFrom, kindNamed, numberIn, afterKey, stepLine, lineOf, firstLine}
-use Rattle.line.specs.Lines.{unended, linesFrom, linesOf}
+use Rattle.line.specs.Lines.{space, newline, before, after, names, kindFrom, kindNamed, numberIn, afterKey, stepLine, undoLine}
+use Rattle.line.specs.Lines.{stepIn, undoIn, lineOf, firstLine, unended, linesFrom, linesOf}
 use Rattle.line.specs.declared.Field.{Field}
 use Rattle.line.specs.declared.Field.the-variants.{Number, Nothing}
 use Rattle.line.specs.declared.Line.{Line}
-use Rattle.line.specs.declared.Line.the-variants.{Step, Unreadable}
-use Rattle.line.proofs.TextLaws.{same-eq}
+use Rattle.line.specs.declared.Line.the-variants.{Step, Undo, Unreadable}
+use Rattle.line.proofs.TextLaws.{same-eq, part-rest}
 use Rattle.line.proofs.LineLaws.{first-ended, first-unended}
 
 -- a line that is ended, of which these bytes are passed
@@ -86,6 +87,24 @@ fields-read (Number k) (Number t) Nothing d step = never (cc)
 fields-read (Number k) (Number t) (Number p) Nothing step = never (cc)
 fields-read (Number k) (Number t) (Number p) (Number v) step = (cc, cc, cc, cc)
 
+-- an entry of a claimed undo order is no step
+undo-no-step : (a b : Field) {kind thread place value : ℕ} → undoLine a b ≡ Step kind thread place value → ⊥
+unfolding undoLine
+undo-no-step Nothing b step = never (cc)
+undo-no-step (Number t) Nothing step = never (cc)
+undo-no-step (Number t) (Number r) step = never (cc)
+
+-- a line that says a step does not begin with `undo`
+step-in : (text : List ℕ) {kind thread place value : ℕ}
+    → lineOf text ≡ Step kind thread place value → stepIn text ≡ Step kind thread place value
+unfolding lineOf undoIn
+step-in text {kind} {thread} {place} {value} step = by-word (sameText (before space text) (ascii "undo")) step
+  where
+    by-word : (undo : Bool) → cond undo (undoIn text) (stepIn text) ≡ Step kind thread place value
+        → stepIn text ≡ Step kind thread place value
+    by-word true step = absurd (undo-no-step _ _ step)
+    by-word false step = step
+
 -- a field that says something has its key, and something after it that says it
 pub record Keyed (key : List ℕ) (says : List ℕ → Field) (text : List ℕ) (number : ℕ) : Type 0 where
   pub begins : take (length key) text ≡ key
@@ -144,7 +163,7 @@ split-long byte text some = omega (arith, length-take (indexOf byte text) text, 
 
 -- "step=LOG thread=0 place=0 value=0" has 33 bytes
 pub step-long : (text : List ℕ) {kind thread place value : ℕ} → lineOf text ≡ Step kind thread place value → 33 ≤ length text
-unfolding lineOf ascii
+unfolding stepIn ascii
 step-long text step =
     let rest = after space text in
     let last = after space rest in
@@ -152,7 +171,7 @@ step-long text step =
     fields-read (afterKey (ascii "step=") kindNamed (before space text))
     (afterKey (ascii "thread=") numberIn (before space rest))
     (afterKey (ascii "place=") numberIn (before space last))
-    (afterKey (ascii "value=") numberIn (after space last)) step in
+    (afterKey (ascii "value=") numberIn (after space last)) (step-in text step) in
     let kind = keyed (ascii "step=") kindNamed (before space text) (read .0) in
     let thread = keyed (ascii "thread=") numberIn (before space rest) (read .1) in
     let place = keyed (ascii "place=") numberIn (before space last) (read .2) in
@@ -170,10 +189,11 @@ step-long text step =
     let g : length text ≡ length (before space text) + 1 + length rest = split-long space text (omega arith) in
     omega arith
 
--- the steps before the first line that can't be read
+-- the steps before the first line that says none
 unfoldable pub leading : List Line → ℕ
 leading [] = 0
 leading (Step kind thread place value ∷ lines) = suc (leading lines)
+leading (Undo thread rank ∷ lines) = 0
 leading (Unreadable ∷ lines) = 0
 
 -- a step takes 34 bytes at least
@@ -188,9 +208,49 @@ steps-from line (byte ∷ input) =
         → 34 * leading (linesFrom (line ++ (byte ∷ [])) input) ≤ length (line ++ (byte ∷ [])) + length input
         → 34 * leading (cond ends (says ∷ linesFrom [] input) (linesFrom (line ++ (byte ∷ [])) input)) ≤ length line + suc (length input)
     by-byte true (Step kind thread place value) is later on = omega (arith, step-long line is)
+    by-byte true (Undo thread rank) is later on = omega arith
     by-byte true Unreadable is later on = omega arith
     by-byte false says is later on = omega (arith, length-append line (byte ∷ []))
 
 pub steps-most : (input : List ℕ) → 34 * leading (linesOf input) ≤ length input
 unfolding linesOf
 steps-most input = omega (arith, steps-from [] input)
+
+-- ---- the rest of an input, line by line
+
+-- the rest of an input, as code lends it
+abbrev pub lent : ℕ → List ℕ → List ℕ
+lent from input = take (length input - from) (drop from input)
+
+-- at the end of the input no line is left
+pub lines-end : (input : List ℕ) {from : ℕ} → length input ≤ from → linesOf (drop from input) ≡ []
+unfolding linesOf linesFrom
+lines-end input none = rw (drop-of-length-le input none)
+
+-- a line that says a step, or an entry of a claimed undo order, could be read
+pub step-read : {line : Line} {kind thread place value : ℕ} → line ≡ Step kind thread place value → line ≡ Unreadable → ⊥
+step-read says not = never (cc)
+
+pub undo-read : {line : Line} {thread rank : ℕ} → line ≡ Undo thread rank → line ≡ Unreadable → ⊥
+undo-read says not = never (cc)
+
+-- the first line of the rest is read
+module _ (input : List ℕ) (from : ℕ) (more : from < length input) {line : Line} (read : line ≡ firstLine (lent from input)) where
+  pub lines-at : linesOf (drop from input) ≡ line ∷ linesOf (after newline (drop from input))
+  lines-at = lines-first (drop from input) (omega (arith, length-drop from input)) ∙ rw (read, part-rest from input)
+
+  -- one that can be read ends within the input, and the lines after it begin after its bytes
+  module _ (isRead : line ≡ Unreadable → ⊥) {length' : ℕ} (long : length' ≡ indexOf newline (lent from input) + 1) where
+    ended : indexOf newline (drop from input) < length (drop from input)
+    ended =
+        by-cases (decLt (indexOf newline (drop from input)) (length (drop from input))) (λ below. below)
+        (λ past.
+        absurd (isRead (read ∙ ap firstLine (part-rest from input) ∙ first-unended (drop from input) (omega arith))))
+
+    pub line-within : from + length' ≤ length input
+    line-within = omega (arith, rw (part-rest from input) at long, ended, length-drop from input)
+
+    pub lines-on : linesOf (drop from input) ≡ line ∷ linesOf (drop (from + length') input)
+    unfolding after
+    lines-on =
+        lines-at ∙ rw (long, part-rest from input) (rw (drop-drop (indexOf newline (drop from input) + 1) from input))

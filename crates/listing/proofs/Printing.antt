@@ -1,7 +1,7 @@
 -- A loop over the lines of an input that prints a piece for each step, whatever the piece is: how long the pieces are, and that a part is
 -- written and the lines that are left print the other part.
 use Prim.Native.Nat.{ℕ, suc, _+_, _-_, _*_, _≤_, _<_}
-use mathlib.Core.Path.{_≡_, refl, sym, _∙_, ap, ap₂}
+use mathlib.Core.Path.{_≡_, sym, _∙_, ap, ap₂}
 use mathlib.Core.Bool.{cond}
 use mathlib.Core.Logic.{by-cases}
 use mathlib.Core.List.{List, [], _∷_, _++_, append-nil, append-assoc}
@@ -12,8 +12,7 @@ use native.Mathlib.Omega.{arith}
 use borrow.Author.Tests.{le-leb, lt-leb, lt-ltb, le-ltb}
 use denote.Enum.Declared.{tagOf}
 use types.Run.{OneOf, miss}
-use lib.ListN.{length, take, drop, replicate, length-append, length-drop, drop-of-length-le}
-use lib.Seq.{drop-drop}
+use lib.ListN.{length, drop, replicate, length-append}
 use lib.Dec.{leb, ltb}
 use Rattle.answer.specs.Answer.{numberOf, valueOf}
 use Rattle.answer.specs.declared.Answer.{Answer}
@@ -27,28 +26,28 @@ use Rattle.machine.proofs.Reaching.{start-reached}
 use Rattle.script.specs.Script.{scriptOf}
 use Rattle.script.proofs.ScriptLaws.{script-reached}
 use Rattle.line.specs.Text.{ascii}
-use Rattle.line.specs.Lines.{newline, after, firstLine, linesFrom, linesOf}
+use Rattle.line.specs.Lines.{newline, after, firstLine, linesOf}
 use Rattle.line.specs.declared.Line.{Line}
-use Rattle.line.specs.declared.Line.the-variants.{Step, Unreadable}
+use Rattle.line.specs.declared.Line.the-variants.{Step, Undo, Unreadable}
 use Rattle.line.proofs.Line as declared
-use Rattle.line.proofs.LineLaws.{first-unended}
-use Rattle.line.proofs.TextLaws.{part-rest}
 use Rattle.buffer.specs.Buffers.{written, placeAfter}
 use Rattle.print.specs.Printed.{resultText}
 use Rattle.buffer.proofs.BufferLaws.{Wrote, wrote-first, wrote-long, wrote-more}
 use Rattle.buffer.proofs.DecimalLaws.{decimal-most}
 use Rattle.listing.specs.Transcript.{mostInput, startMachine, transcriptRoom, Transcript}
-use Rattle.listing.proofs.InputLaws.{lines-first, leading}
+use Rattle.listing.proofs.InputLaws.{leading, lent, lines-end, lines-at, step-read, line-within as input-within, lines-on}
 
 -- ---- the pieces
 
--- what is printed for some lines, by a machine, from a number on: a piece for each line that says a step, and its answer where one can't be
--- read
+-- what is printed for some lines, by a machine, from a number on: a piece for each line that says a step, and the answer 20 where one says
+-- none
 pub record LineByLine (texts : Machine → ℕ → List Line → List ℕ) (piece : ℕ → Stepped → List ℕ) : Type 0 where
   pub on-step : (machine : Machine) (number kind thread place value : ℕ) (lines : List Line)
       → texts machine number (Step kind thread place value ∷ lines)
       ≡ piece number (scriptOf machine kind thread place value) ++
       texts (scriptOf machine kind thread place value .machine) (suc number) lines
+  pub on-undo : (machine : Machine) (number thread rank : ℕ) (lines : List Line)
+      → texts machine number (Undo thread rank ∷ lines) ≡ resultText number UnreadableAnswer
   pub on-unreadable : (machine : Machine) (number : ℕ) (lines : List Line)
       → texts machine number (Unreadable ∷ lines) ≡ resultText number UnreadableAnswer
 
@@ -74,6 +73,8 @@ module _ {texts : Machine → ℕ → List Line → List ℕ} {piece : ℕ → S
         texts-most (stepped .machine) (suc number) lines,
         mul-suc most (leading lines),
       )
+  texts-most machine number (Undo thread rank ∷ lines) =
+      omega (arith, ap length (by-line .on-undo machine number thread rank lines), result-most number UnreadableAnswer)
   texts-most machine number (Unreadable ∷ lines) =
       omega (arith, ap length (by-line .on-unreadable machine number lines), result-most number UnreadableAnswer)
 
@@ -168,14 +169,13 @@ printing-start first short fits room wrote is = record {
   counted = omega arith;
 }
 
--- the rest of an input, as code lends it
-abbrev pub lent : ℕ → List ℕ → List ℕ
-lent from input = take (length input - from) (drop from input)
-
--- a line whose tag is not that of a step can't be read
-unreadable : (line : Line) → OneOf (1 ∷ []) (tagOf declared.the-type line) → line ≡ Unreadable
-unreadable (Step kind thread place value) key = absurd (miss (1 ∷ []) 0 tt key)
-unreadable Unreadable key = refl
+-- a line whose tag is not that of a step prints the answer 20
+no-step : {texts : Machine → ℕ → List Line → List ℕ} {piece : ℕ → Stepped → List ℕ} → LineByLine texts piece
+    → (machine : Machine) (number : ℕ) (line : Line) (lines : List Line) → OneOf (1 ∷ 2 ∷ []) (tagOf declared.the-type line)
+    → texts machine number (line ∷ lines) ≡ resultText number UnreadableAnswer
+no-step by-line machine number (Step kind thread place value) lines key = absurd (miss (1 ∷ 2 ∷ []) 0 tt key)
+no-step by-line machine number (Undo thread rank) lines key = by-line .on-undo machine number thread rank lines
+no-step by-line machine number Unreadable lines key = by-line .on-unreadable machine number lines
 
 module _ {texts : Machine → ℕ → List Line → List ℕ} {text input old output : List ℕ} {machine : Machine} {number from place : ℕ}
     (so-far : Printing texts text input old output machine number from place) where
@@ -206,32 +206,24 @@ module _ {texts : Machine → ℕ → List Line → List ℕ} {text input old ou
 
   -- at the end of the input no line is left
   pub none-left : length input ≤ from → texts machine number (linesOf (drop from input)) ≡ texts machine number []
-  unfolding linesOf linesFrom
-  none-left none = rw (drop-of-length-le input none)
+  none-left none = ap (texts machine number) (lines-end input none)
 
   -- the first line of the rest is read
   module _ (more : from < length input) {line : Line} (read : line ≡ firstLine (lent from input)) where
     first : texts machine number (linesOf (drop from input)) ≡ texts machine number (line ∷ linesOf (after newline (drop from input)))
-    first = rw (lines-first (drop from input) (omega (arith, length-drop from input)), read, part-rest from input)
+    first = ap (texts machine number) (lines-at input from more read)
 
-    -- a line that can't be read prints its answer as the last piece
-    pub printing-unreadable : {piece : ℕ → Stepped → List ℕ} → LineByLine texts piece → OneOf (1 ∷ []) (tagOf declared.the-type line)
+    -- a line that says no step prints the answer 20 as the last piece
+    pub printing-unreadable : {piece : ℕ → Stepped → List ℕ} → LineByLine texts piece → OneOf (1 ∷ 2 ∷ []) (tagOf declared.the-type line)
         → {place' : ℕ} {output' : List ℕ} → Put output place (resultText number UnreadableAnswer) place' output'
         → Stands input text old place' output'
     printing-unreadable by-line key put =
-        printing-last (resultText number UnreadableAnswer) (first ∙ rw (unreadable line key, by-line .on-unreadable)) put
+        printing-last (resultText number UnreadableAnswer) (first ∙ no-step by-line machine number line _ key) put
 
     -- a line that says a step prints its piece
     module _ {kind thread cell value : ℕ} (says : line ≡ Step kind thread cell value) where
-      ended : indexOf newline (drop from input) < length (drop from input)
-      ended =
-          by-cases (decLt (indexOf newline (drop from input)) (length (drop from input))) (λ below. below)
-          (λ past.
-          let wrong : _≡_ {A = ℕ} 0 1 = cc (first-unended (drop from input) (omega arith), part-rest from input) in
-          absurd (omega arith))
-
       pub line-within : {length' : ℕ} → length' ≡ indexOf newline (lent from input) + 1 → from + length' ≤ length input
-      line-within long = omega (arith, rw (part-rest from input) at long, ended, length-drop from input)
+      line-within long = input-within input from more read (step-read says) long
 
       module _ {stepped : Stepped} (is : stepped ≡ scriptOf machine kind thread cell value) where
         pub stepped-reached : Reached (stepped .machine)
@@ -246,11 +238,9 @@ module _ {texts : Machine → ℕ → List Line → List ℕ} {text input old ou
           rest = texts (stepped .machine) (number + 1) (linesOf (drop (from + length') input))
 
           step-printed : texts machine number (linesOf (drop from input)) ≡ said ++ rest
-          unfolding after
           step-printed =
-              first
-              ∙ rw (says, by-line .on-step, is, long, part-rest from input, add-one number)
-              (rw (drop-drop (indexOf newline (drop from input) + 1) from input))
+              ap (texts machine number) (lines-on input from more read (step-read says) long)
+              ∙ rw (says, by-line .on-step, is, add-one number)
 
           pub printing-step : {place' : ℕ} {output' : List ℕ} → Put output place said place' output'
               → Printing texts text input old output' (stepped .machine) (number + 1) (from + length') place'

@@ -22,7 +22,11 @@ use Rattle.listing.proofs.RecoveredLaws.{recovered-most}
 -- the piece of a step is its answer
 pub by-line : LineByLine printed (λ number stepped. resultText number (stepped .answer))
 unfolding printed
-by-line = record { on-step = λ machine number kind thread place value lines. refl; on-unreadable = λ machine number lines. refl }
+by-line = record {
+  on-step = λ machine number kind thread place value lines. refl;
+  on-undo = λ machine number thread rank lines. refl;
+  on-unreadable = λ machine number lines. refl;
+}
 
 -- ---- the transcript's length
 

@@ -14,7 +14,7 @@ use Rattle.recovery.specs.Recover.{recoverOf}
 use Rattle.line.specs.Lines.{linesOf}
 use Rattle.print.specs.Printed.{resultText, cellsText}
 use Rattle.line.specs.declared.Line.{Line}
-use Rattle.line.specs.declared.Line.the-variants.{Step, Unreadable}
+use Rattle.line.specs.declared.Line.the-variants.{Step, Undo, Unreadable}
 
 -- "Standard input, at most 65,536 bytes"
 abbrev pub mostInput : ℕ
@@ -29,12 +29,14 @@ unfoldable pub recoveredCells : Machine → List ℕ
 recoveredCells machine = recoverOf (imageOf machine) (replicate cellCount 0) .buffer
 
 -- what is printed for these lines, of which the first has this number, by this machine.
--- "A line that can't be read ends the run: it prints that line's number with answer=20 value=0, and no cells."
+-- "A line that can't be read ends the run: it prints that line's number with answer=20 value=0, and no cells." An entry of a claimed undo
+-- order is no step: here its line can't be read either.
 unfoldable pub printed : Machine → ℕ → List Line → List ℕ
 printed machine number [] = cellsText 0 (recoveredCells machine)
 printed machine number (Step kind thread place value ∷ lines) =
     let stepped = scriptOf machine kind thread place value in
     resultText number (stepped .answer) ++ printed (stepped .machine) (suc number) lines
+printed machine number (Undo thread rank ∷ lines) = resultText number UnreadableAnswer
 printed machine number (Unreadable ∷ lines) = resultText number UnreadableAnswer
 
 -- "Input too long prints only that, as line 1."

@@ -88,7 +88,7 @@ fn answer_in(transcript: &[u8]) -> usize {
     first * 10 + second
 }
 
-// The table's row for a line: the kind less 1, and 14 for a line that can't be read.
+// The table's row for a line: the kind less 1, and 14 for a line that can't be read as a step.
 fn row_of(line: Line, answer: usize) -> usize {
     let Line::Step { kind, .. } = line else {
         return 14;

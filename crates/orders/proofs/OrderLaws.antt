@@ -17,13 +17,13 @@ use Rattle.ring.specs.Ring.{slotCount}
 use Rattle.image.specs.Stored.{StoredLog, storedLog}
 use Rattle.recovery.specs.Undo.{Undo, leftOf, takeLast, takeMany, hasLeft}
 use Rattle.orders.specs.Orders.{Name, nameAt, kindIn, placeIn, valueIn, IsLeft, IsOrderOf}
-use Rattle.orders.proofs.Timed.{Handed, Timed}
+use Rattle.orders.proofs.Timed.{Handed, Timed, Partway}
 use Rattle.orders.proofs.UndoSteps.{lastOf, thread-below, fails, Takeable, mayTake-takeable, takeable-mayTake, Taken, takeLast-taken}
 use Rattle.orders.proofs.UndoSteps.{taken-within, left-or-last}
-use Rattle.orders.proofs.UndoEnds.{none-left, all-taken}
+use Rattle.orders.proofs.UndoEnds.{totalOf, total-bounded, may-less, none-left, all-taken}
 use Rattle.orders.proofs.Takes.{nameOf, Takes}
 
-same-name : (a b : Name) → a .thread ≡ b .thread → a .lsn ≡ b .lsn → a ≡ b
+pub same-name : (a b : Name) → a .thread ≡ b .thread → a .lsn ≡ b .lsn → a ≡ b
 same-name a b isThread isLsn i = record { thread = isThread i; lsn = isLsn i }
 
 is-left : (logs : List StoredLog) (left : List ℕ) (thread index : ℕ) → index < leftOf left thread →
@@ -314,3 +314,20 @@ takes-order {logs} {undo} (Takes.taking {order = order} thread inRange may rest)
     let after = takeLast logs undo thread in
     let take = takeLast-taken logs undo thread threads (takeable .hasEntry) in
     cons-order logs undo thread after take (takeable .hasEntry) order takeable (takes-order rest (take .threads) nothing)
+
+-- each take leaves fewer entries in all, so no more are named than were left
+takes-few : {logs : List StoredLog} {undo end : Undo} {order : List Name} → Takes logs undo order end →
+    length (undo .left) ≡ threadCount → length order ≤ totalOf (undo .left) threadCount
+takes-few Takes.ended threads = omega arith
+takes-few {logs} {undo} (Takes.taking thread inRange may rest) threads =
+    let takeable = mayTake-takeable logs (undo .left) threads thread may in
+    let take = takeLast-taken logs undo thread threads (takeable .hasEntry) in
+    let partway : Partway (undo .left) undo = record { threads = threads; within = λ other. omega arith } in
+    omega (arith, takes-few rest (take .threads), may-less logs (undo .left) undo partway thread may)
+
+-- four threads have at most 64 entries each, so an order names at most 256
+pub order-few : (logs : List StoredLog) (left : List ℕ) (order : List Name) → length left ≡ threadCount →
+    ((thread : ℕ) → thread < threadCount → leftOf left thread ≤ slotCount) → IsOrderOf logs left order → length order ≤ 256
+order-few logs left order threads few isOrder =
+    let taken = order-takes logs order (record { left = left; cells = [] }) threads isOrder in
+    omega (arith, takes-few (taken .1) threads, total-bounded left slotCount threadCount few)

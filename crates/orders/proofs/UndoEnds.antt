@@ -128,11 +128,11 @@ module _ (logs : List StoredLog) (present : List ℕ) (timed : Timed logs presen
           record { thread = thread; isLowest = isFound; inRange = omega (arith, found .0); may = found .1 }
 
 -- how many entries the threads below the bound have left
-totalOf : List ℕ → ℕ → ℕ
+pub totalOf : List ℕ → ℕ → ℕ
 totalOf left zero = 0
 totalOf left (suc bound) = leftOf left bound + totalOf left bound
 
-total-bounded : (left : List ℕ) (most : ℕ) (bound : ℕ) → ((thread : ℕ) → thread < bound → leftOf left thread ≤ most) →
+pub total-bounded : (left : List ℕ) (most : ℕ) (bound : ℕ) → ((thread : ℕ) → thread < bound → leftOf left thread ≤ most) →
     totalOf left bound ≤ bound * most
 unfolding totalOf
 total-bounded left most zero bounded = omega arith
@@ -176,7 +176,7 @@ module _ (logs : List StoredLog) (present : List ℕ) where
       present
       partway
 
-  may-less : (undo : Undo) → Partway present undo → (thread : ℕ) → mayTake logs (undo .left) thread ≡ true →
+  pub may-less : (undo : Undo) → Partway present undo → (thread : ℕ) → mayTake logs (undo .left) thread ≡ true →
       totalOf (takeLast logs undo thread .left) threadCount < totalOf (undo .left) threadCount
   may-less undo partway thread may =
       let takeable = mayTake-takeable logs (undo .left) (partway .threads) thread may in

@@ -48,10 +48,10 @@ handed-moved pair releaseLeft acquireLeft = record {
 }
 
 -- tests that are joined, and what each of them then says
-all-hold : {a b c : Bool} → a ≡ true → b ≡ true → c ≡ true → (a && b && c) ≡ true
+pub all-hold : {a b c : Bool} → a ≡ true → b ≡ true → c ≡ true → (a && b && c) ≡ true
 all-hold first second third = rw (first, second, third)
 
-each-holds : (a b c : Bool) → (a && b && c) ≡ true → (a ≡ true) × (b ≡ true) × (c ≡ true)
+pub each-holds : (a b c : Bool) → (a && b && c) ≡ true → (a ≡ true) × (b ≡ true) × (c ≡ true)
 each-holds true true true all = (refl, refl, refl)
 each-holds true true false all = absurd (false≢true all)
 each-holds true false c all = absurd (false≢true all)

@@ -28,7 +28,7 @@ use Rattle.orders.proofs.Takes.{many-takes}
 use Rattle.orders.proofs.OrderLaws.{order-taken, takes-order}
 
 module _ (image : List ℕ) where
-  few-present : (thread : ℕ) → thread < threadCount → leftOf (presentEntries image) thread ≤ slotCount
+  pub few-present : (thread : ℕ) → thread < threadCount → leftOf (presentEntries image) thread ≤ slotCount
   few-present thread inRange = rw (count-present image thread inRange) (present-few (logIn image thread))
 
   -- where there is an order nothing is left

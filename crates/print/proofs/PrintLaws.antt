@@ -9,16 +9,34 @@ use lib.ListN.{length, getD, take, drop, length-append, take-append-drop, drop-o
 use lib.Seq.{length-take-le, take-length}
 use Rattle.line.specs.Text.{ascii, decimalText}
 use Rattle.buffer.specs.Buffers.{written, placeAfter}
-use Rattle.print.specs.Printed.{cellText, cellsText}
-use Rattle.buffer.proofs.BufferLaws.{Wrote, wrote-more, wrote-long, pasted, Upto}
+use Rattle.print.specs.Printed.{labelledText, numbersText, cellText, cellsText}
+use Rattle.buffer.proofs.BufferLaws.{Wrote, wrote-more, wrote-long, wrote-front, pasted}
+use Rattle.buffer.proofs.DecimalLaws.{decimal-most}
 use Rattle.line.proofs.TextLaws.{drop-first}
 
--- the pieces of a cell's line
-pub cell-line : {most : ℕ} {old buffer : List ℕ} {place : ℕ} (cell content : ℕ)
-    → Upto most old buffer place (ascii "cell=" ++ decimalText cell ++ ascii " holds=" ++ decimalText content ++ ascii "\n")
-    → Wrote old buffer place (cellText cell content)
-unfolding cellText
-cell-line cell content line = line .wrote
+-- a line of two numbers, of at most 20 digits each, with labels of at most 9 and 8 bytes
+pub labelled-most : (first : List ℕ) (a : ℕ) (second : List ℕ) (b : ℕ) → length first ≤ 9 → length second ≤ 8
+    → length (labelledText first a second b) ≤ 58
+unfolding labelledText ascii
+labelled-most first a second b few few' = simp length-append (omega (arith, decimal-most a, decimal-most b))
+
+-- a number before the line of two numbers makes the numbered line
+pub numbers-line : (number : ℕ) (first : List ℕ) (a : ℕ) (second : List ℕ) (b : ℕ)
+    → ascii "n=" ++ decimalText number ++ labelledText first a second b ≡ numbersText number first a second b
+unfolding labelledText numbersText
+numbers-line number first a second b = simp (append-assoc)
+
+module _ {old line : List ℕ} {end : ℕ} {text : List ℕ} (made : Wrote old line end text) where
+  -- a line that is made in an array of its own ends within it
+  pub made-within : end ≤ length line
+  made-within = omega (arith, made .end, made .fits, wrote-long made)
+
+  -- to write what such a line holds up to its end is to write its text
+  pub made-written : (buffer : List ℕ) (place : ℕ) {buffer' : List ℕ} {place' : ℕ}
+      → (place' ≡ placeAfter buffer place (take end line)) × (buffer' ≡ written buffer place (take end line))
+      → (place' ≡ placeAfter buffer place text) × (buffer' ≡ written buffer place text)
+  made-written buffer place put =
+      (put .0 ∙ ap (placeAfter buffer place) (wrote-front made), put .1 ∙ ap (written buffer place) (wrote-front made))
 
 module _ (cells : List ℕ) (i : ℕ) where
   -- a cell that isn't 0 has its line before those of the cells after it

@@ -1,2 +1,2 @@
--- What is printed of a step, of a recovered cell and of a cut.
+-- What is printed of a step, of a recovered cell, of a cut and of a claimed order that is marked.
 pub mod Printed

@@ -1,4 +1,4 @@
--- What is printed of a step and of a recovered cell.
+-- What is printed of a step, of a recovered cell, of a cut and of a claimed order that is marked.
 use Prim.Native.Nat.{ℕ, suc}
 use mathlib.Core.Bool.{cond}
 use mathlib.Core.List.{List, [], _∷_, _++_}
@@ -6,6 +6,10 @@ use lib.Dec.{eqb}
 use Rattle.answer.specs.Answer.{numberOf, valueOf}
 use Rattle.answer.specs.declared.Answer.{Answer}
 use Rattle.line.specs.Text.{ascii, decimalText}
+
+-- a line of two numbers, each after its label
+unfoldable pub labelledText : List ℕ → ℕ → List ℕ → ℕ → List ℕ
+labelledText first a second b = first ++ decimalText a ++ second ++ decimalText b ++ ascii "\n"
 
 -- a numbered line with two more numbers, each after its label
 unfoldable pub numbersText : ℕ → List ℕ → ℕ → List ℕ → ℕ → List ℕ
@@ -31,3 +35,7 @@ cellsText cell (content ∷ contents) = cond (eqb content 0) [] (cellText cell c
 unfoldable pub cutLineText : ℕ → ℕ → ℕ → List ℕ
 cutLineText number choices differ =
     ascii "n=" ++ decimalText number ++ ascii " choices=" ++ decimalText choices ++ ascii " differ=" ++ decimalText differ ++ ascii "\n"
+
+-- what is printed of a claimed order that is marked: its answer and the place of its first bad pair, as `answer=27 place=3`
+unfoldable pub markedText : Answer → ℕ → List ℕ
+markedText answer pair = ascii "answer=" ++ decimalText (numberOf answer) ++ ascii " place=" ++ decimalText pair ++ ascii "\n"

@@ -1,12 +1,36 @@
-// What is printed of a step, of a recovered cell and of a cut, into a lent buffer. What does not fit is not written.
+// What is printed of a step, of a recovered cell, of a cut and of a marked order, into a lent buffer. What does not fit is not written.
 ghost use mathlib.Core.Path.{_≡_};
 ghost use Prim.Native.Nat.{_≤_};
 ghost use lib.ListN.{length};
 ghost use Rattle.buffer.specs.Buffers.{written, placeAfter};
-ghost use Rattle.print.specs.Printed.{numbersText, resultText, cellText, cutLineText};
+ghost use Rattle.print.specs.Printed.{numbersText, labelledText, resultText, cellText, cutLineText, markedText};
 use answer::Answer;
 use buffer::write;
 use buffer::write_number;
+
+// Writes a line of two numbers, each after its label.
+fn write_labelled(
+    buffer: &mut [u8],
+    place: usize,
+    first: &[u8],
+    a: u64,
+    second: &[u8],
+    b: u64,
+) -> usize
+    requires { ⌜ (length (now first) ≤ 9) × (length (now second) ≤ 8) ⌝ }
+    ensures { λ r. ⌜ r ≡ placeAfter (now (buffer .entry)) place (labelledText (now (first .entry)) a (now (second .entry)) b) ⌝ }
+    ensures { λ _.
+        ⌜ now (buffer .exit) ≡ written (now (buffer .entry)) place (labelledText (now (first .entry)) a (now (second .entry)) b) ⌝ }
+{
+    // two numbers of at most 20 digits, the labels, and a newline
+    let mut line = [0u8; 58];
+    let end = write(&mut line, 0, first);
+    let end = write_number(&mut line, end, a);
+    let end = write(&mut line, end, second);
+    let end = write_number(&mut line, end, b);
+    let end = write(&mut line, end, b"\n");
+    write(buffer, place, &line[..end])
+}
 
 // Writes a numbered line with two more numbers, each after its label.
 fn write_numbers(
@@ -28,11 +52,7 @@ fn write_numbers(
     let mut line = [0u8; 80];
     let end = write(&mut line, 0, b"n=");
     let end = write_number(&mut line, end, number);
-    let end = write(&mut line, end, first);
-    let end = write_number(&mut line, end, a);
-    let end = write(&mut line, end, second);
-    let end = write_number(&mut line, end, b);
-    let end = write(&mut line, end, b"\n");
+    let end = write_labelled(&mut line, end, first, a, second, b);
     write(buffer, place, &line[..end])
 }
 
@@ -81,12 +101,14 @@ pub fn write_cell(buffer: &mut [u8], place: usize, cell: u64, content: u64) -> u
     ensures { λ r. ⌜ r ≡ placeAfter (now (buffer .entry)) place (cellText cell content) ⌝ }
     ensures { λ _. ⌜ now (buffer .exit) ≡ written (now (buffer .entry)) place (cellText cell content) ⌝ }
 {
-    // two numbers of at most 20 digits, and 13 bytes besides
-    let mut line = [0u8; 53];
-    let end = write(&mut line, 0, b"cell=");
-    let end = write_number(&mut line, end, cell);
-    let end = write(&mut line, end, b" holds=");
-    let end = write_number(&mut line, end, content);
-    let end = write(&mut line, end, b"\n");
-    write(buffer, place, &line[..end])
+    write_labelled(buffer, place, b"cell=", cell, b" holds=", content)
+}
+
+// Writes what a claimed order is answered: the answer's number, and the place of the first bad pair.
+pub fn write_marked(buffer: &mut [u8], place: usize, answer: Answer, pair: u64) -> usize
+    ensures { λ r. ⌜ r ≡ placeAfter (now (buffer .entry)) place (markedText answer pair) ⌝ }
+    ensures { λ _. ⌜ now (buffer .exit) ≡ written (now (buffer .entry)) place (markedText answer pair) ⌝ }
+{
+    let given = answer::number(answer);
+    write_labelled(buffer, place, b"answer=", given, b" place=", pair)
 }

@@ -35,6 +35,7 @@ use Rattle.recovery.specs.Recover.{recoverTests, recoverOf}
 use Rattle.recovery.specs.Undo.{hasLaterAcquire, mayTakeEntry, mayTake, lowestFrom, takeLast, takeNext, takeMany, undoStart, undone}
 use Rattle.recovery.specs.Undo.{hasLeft}
 use Rattle.orders.specs.Orders.{undoneBy}
+use Rattle.order.specs.Check.{pairsOf, mayTakeName, badPlace, areNotPairs, checkTests, checkOf}
 use Rattle.tables.specs.Points.{Row, _gives_, foundOf, askedOf}
 
 -- two lists have the same words
@@ -55,7 +56,8 @@ unfolding same flatten tab someBelow countBelow setFrom mixFrom unless cacheOf s
     effect freshMachine startOf imageOf cutOf kindOf inputTests loadTests logTests storeTests acquireTests
     logReleaseTests releaseTests pruneTests stateTests after answers evictSteps stepOfKind stepOf scriptOf logEach
     logCellsOf isBadHead isBadEntry hasBadEntry imageTests recoverTests recoverOf storedLogs hasLaterAcquire mayTakeEntry
-    mayTake lowestFrom takeLast takeNext takeMany undoStart undone hasLeft undoneBy
+    mayTake lowestFrom takeLast takeNext takeMany undoStart undone hasLeft undoneBy pairsOf mayTakeName badPlace areNotPairs checkTests
+    checkOf
 allGiven [] = true
 allGiven ((found gives asked) ∷ rows) = same found asked && allGiven rows
 

@@ -1,7 +1,7 @@
--- Document 01's numbers, bounds and orders of tests, with what document 02 says of LOG, FENCE, the next slot, the evictions and many cells
--- logged in one call, as a second table beside that of the P points: each row stands under the words that it is read from. Where steps get
--- to an edge only after very many, or never, a row begins at a machine that is written down; images that no machine makes are written down
--- too.
+-- Document 01's numbers, bounds and orders of tests, with what document 02 says of LOG, FENCE, the next slot, the evictions, many cells
+-- logged in one call and claimed undo orders, as a second table beside that of the P points: each row stands under the words that it is
+-- read from. Where steps get to an edge only after very many, or never, a row begins at a machine that is written down; images that no
+-- machine makes are written down too.
 use Prim.Native.Nat.{ℕ, _+_, _-_}
 use mathlib.Core.Path.{_≡_}
 use mathlib.Core.Bool.{cond}
@@ -14,6 +14,7 @@ use Rattle.answer.specs.declared.Answer.the-variants.{LogFull, LsnsUsedUp, Rele
 use Rattle.answer.specs.declared.Answer.the-variants.{LockHeld, LockNotHeld, NotReleasing}
 use Rattle.answer.specs.declared.Answer.the-variants.{NothingToPrune, EarlierReleaseNotPruned, CellNotDurable, NoLiveEntry, Unreadable}
 use Rattle.answer.specs.declared.Answer.the-variants.{WrongLength, BadHead, BadEntry, Cyclic, TooManyCells}
+use Rattle.answer.specs.declared.Answer.the-variants.{NotPairs, NotAnOrder}
 use Rattle.ring.specs.Ring.{lsn, nextSlotOf}
 use Rattle.tail.specs.declared.Releasing.the-variants.{Nothing, Lock}
 use Rattle.log.specs.Entries.{zeros, wordsOf}
@@ -28,6 +29,7 @@ use Rattle.script.specs.Script.{scriptOf}
 use Rattle.batch.specs.Batch.{logCellsOf}
 use Rattle.recovery.specs.Recover.{recoverOf}
 use Rattle.orders.specs.Orders.{Name, name, undoneInOrder}
+use Rattle.order.specs.Check.{pairsOf, checkOf}
 use Rattle.atomicity.specs.History.{startMachine, machineAfter}
 use Rattle.tables.specs.Points.{step, LOAD, LOG, STORE, ACQUIRE, LOGREL, RELEASE, FLUSH, FLUSHLOG, FENCE, PRUNE, EVICT, EVICTLOG}
 use Rattle.tables.specs.Points.{EVICTCELL, EVICTWORDS, numbered, lent, leaves, answered, outcome, recovered, withEntry, makes}
@@ -437,7 +439,8 @@ givenRows =
     (map valueOf (LogFull ∷ LsnsUsedUp ∷ Releasing ∷ Race ∷ NotLogged ∷ EntryNotDurable ∷ []) gives replicate 6 0) ∷
     (map valueOf (LockHeld ∷ LockNotHeld ∷ NotReleasing ∷ NothingToPrune ∷ []) gives replicate 4 0) ∷
     (map valueOf (EarlierReleaseNotPruned ∷ CellNotDurable ∷ NoLiveEntry ∷ []) gives replicate 3 0) ∷
-    (map valueOf (Unreadable ∷ WrongLength ∷ BadHead ∷ BadEntry ∷ Cyclic ∷ TooManyCells ∷ []) gives replicate 6 0) ∷ []
+    (map valueOf (Unreadable ∷ WrongLength ∷ BadHead ∷ BadEntry ∷ Cyclic ∷ TooManyCells ∷ NotPairs ∷ NotAnOrder ∷ []) gives
+    replicate 8 0) ∷ []
 
 -- ---- many cells logged in one call
 
@@ -754,6 +757,145 @@ orderRows =
     (undoneInOrder (logs [] (entry 2 5 1 1 ++ entry 1 7 2 2 ++ entry 3 6 3 3) [] []) (name 1 3 ∷ name 1 2 ∷ name 1 1 ∷ []) gives
     set zeroCells 7 2) ∷ []
 
+-- ---- claimed undo orders
+
+-- what a list is answered for an image: the answer's number, and the place
+unfoldable pub marks : List ℕ → List ℕ → List ℕ
+marks image pairs =
+    let checked = checkOf image pairs in
+    numberOf (checked .answer) ∷ checked .place ∷ []
+
+-- the same for each of some lists
+unfoldable pub marksEach : List ℕ → List (List ℕ) → List ℕ
+marksEach image lists = flatten (map (marks image) lists)
+
+-- the largest word, 2^64 - 1
+abbrev pub lastWord : ℕ
+lastWord = 18446744073709551615
+
+-- STOREs of thread 2, of ranks 1 to 3, and one of thread 3
+unfoldable pub threeAndOne : List ℕ
+threeAndOne = logs [] [] (entry 1 5 1 1 ++ entry 1 6 2 2 ++ entry 1 7 3 3) (entry 1 8 4 1)
+
+-- a RELEASE of thread 0 that waits for the ACQUIREs of threads 1 and 2
+unfoldable pub waitsForTwo : List ℕ
+waitsForTwo = logs (entry 3 0 0 1) (entry 2 0 1 1) (entry 2 0 2 1) []
+
+-- a RELEASE of thread 0 that waits for none of the others' ACQUIREs: of its lock with the same count, with a smaller one, and of another
+-- lock with a larger one
+unfoldable pub waitsForNoOther : List ℕ
+waitsForNoOther = logs (entry 3 0 1 1) (entry 2 0 1 1) (entry 2 0 0 1) (entry 2 1 2 1)
+
+-- `tangled` with a STORE behind thread 0's entries, and one of thread 2
+unfoldable pub tangledBehind : List ℕ
+tangledBehind = withEntry (withEntry tangled 0 1 5 1 3) 2 1 6 2 1
+
+-- the 256 entries of `full`, thread by thread
+unfoldable pub fullOrder : List ℕ
+fullOrder = flatten (map (λ thread. flatten (tab 64 (λ index. thread ∷ (127 - index) ∷ []))) (3 ∷ 0 ∷ 2 ∷ 1 ∷ []))
+
+-- threads 0 and 1 write cell 9 one after the other, each under lock 0, and its line is kept
+unfoldable pub handedOn : List Step
+handedOn = makes 0 4 ++ makes 1 5 ++ (FLUSH 0 1 ∷ FENCE 0 ∷ [])
+
+-- "27: the list is not such an order"
+unfoldable pub checkRows : List Row
+checkRows =
+    -- "It accepts exactly the lists that name each present entry once and keep L8's order", of "pairs, thread and rank, as words"; "an
+    -- accepted one with 0". Document 01's order is one, and the other way is one too
+    (marks foreign (0 ∷ 1 ∷ 1 ∷ 1 ∷ []) gives 0 ∷ 0 ∷ []) ∷
+    (marks foreign (1 ∷ 1 ∷ 0 ∷ 1 ∷ []) gives 0 ∷ 0 ∷ []) ∷
+    (map (λ pairs. valueOf (checkOf foreign pairs .answer)) ((0 ∷ 1 ∷ 1 ∷ 1 ∷ []) ∷ [] ∷ []) gives 0 ∷ 0 ∷ []) ∷
+    -- L8: "takes each thread's entries last to first", and another thread's anywhere among them
+    (marks threeAndOne (3 ∷ 1 ∷ 2 ∷ 3 ∷ 2 ∷ 2 ∷ 2 ∷ 1 ∷ []) gives 0 ∷ 0 ∷ []) ∷
+    (marks threeAndOne (2 ∷ 3 ∷ 3 ∷ 1 ∷ 2 ∷ 2 ∷ 2 ∷ 1 ∷ []) gives 0 ∷ 0 ∷ []) ∷
+    (marks threeAndOne (2 ∷ 3 ∷ 2 ∷ 2 ∷ 2 ∷ 1 ∷ 3 ∷ 1 ∷ []) gives 0 ∷ 0 ∷ []) ∷
+    -- "or the count of pairs where entries are missing": all of them, one of a thread's, all of a thread's
+    (marks threeAndOne [] gives 27 ∷ 0 ∷ []) ∷
+    (marks threeAndOne (2 ∷ 3 ∷ 2 ∷ 2 ∷ 3 ∷ 1 ∷ []) gives 27 ∷ 3 ∷ []) ∷
+    (marks threeAndOne (2 ∷ 3 ∷ 2 ∷ 2 ∷ 2 ∷ 1 ∷ []) gives 27 ∷ 3 ∷ []) ∷
+    -- "A pair is bad if, the pairs before it being taken, its entry isn't its thread's last remaining present one": first to last, the
+    -- last two swapped, one passed over; doubled; when the thread has none left, or had none
+    (marks threeAndOne (2 ∷ 1 ∷ 2 ∷ 2 ∷ 2 ∷ 3 ∷ 3 ∷ 1 ∷ []) gives 27 ∷ 0 ∷ []) ∷
+    (marks threeAndOne (3 ∷ 1 ∷ 2 ∷ 3 ∷ 2 ∷ 1 ∷ 2 ∷ 2 ∷ []) gives 27 ∷ 2 ∷ []) ∷
+    (marks threeAndOne (2 ∷ 3 ∷ 2 ∷ 1 ∷ 3 ∷ 1 ∷ []) gives 27 ∷ 1 ∷ []) ∷
+    (marks threeAndOne (2 ∷ 3 ∷ 2 ∷ 2 ∷ 2 ∷ 2 ∷ 2 ∷ 1 ∷ 3 ∷ 1 ∷ []) gives 27 ∷ 2 ∷ []) ∷
+    (marks threeAndOne (2 ∷ 3 ∷ 2 ∷ 2 ∷ 2 ∷ 1 ∷ 3 ∷ 1 ∷ 2 ∷ 1 ∷ []) gives 27 ∷ 4 ∷ []) ∷
+    (marks threeAndOne (2 ∷ 3 ∷ 0 ∷ 1 ∷ 2 ∷ 2 ∷ 2 ∷ 1 ∷ 3 ∷ 1 ∷ []) gives 27 ∷ 1 ∷ []) ∷
+    -- "its thread's last remaining present one": of other ranks the one before, the one after, the next of its slot, 0 and the largest
+    -- word; of threads that there are not 4, two whose last bits are those of 2, and the largest word
+    (marksEach threeAndOne (map (λ rank. 2 ∷ 3 ∷ 2 ∷ rank ∷ []) (1 ∷ 3 ∷ 66 ∷ 0 ∷ lastWord ∷ [])) gives
+    flatten (replicate 5 (27 ∷ 1 ∷ []))) ∷
+    (marksEach threeAndOne (map (λ thread. 2 ∷ 3 ∷ thread ∷ 2 ∷ []) (4 ∷ 6 ∷ 4294967298 ∷ lastWord ∷ [])) gives
+    flatten (replicate 4 (27 ∷ 1 ∷ []))) ∷
+    (marks threeAndOne (lastWord ∷ lastWord ∷ []) gives 27 ∷ 0 ∷ []) ∷
+    -- "the place, from 0, of its first bad pair": there are more, and entries are missing too
+    (marks threeAndOne (3 ∷ 1 ∷ 4 ∷ 1 ∷ 3 ∷ 1 ∷ 2 ∷ 9 ∷ []) gives 27 ∷ 1 ∷ []) ∷
+    -- "each present entry": not one before its thread's head, nor one behind an empty slot
+    (marksEach
+    (withHead (logs [] (entry 4 7 1 1 ++ entry 1 8 2 2 ++ entry 1 9 3 3) [] []) 1 2)
+    ((1 ∷ 3 ∷ 1 ∷ 2 ∷ []) ∷ (1 ∷ 3 ∷ 1 ∷ 2 ∷ 1 ∷ 1 ∷ []) ∷ (1 ∷ 2 ∷ []) ∷ []) gives
+    0 ∷ 0 ∷ 27 ∷ 2 ∷ 27 ∷ 0 ∷ []) ∷
+    (marksEach
+    (logs [] (entry 1 7 1 1 ++ entry 0 0 0 0 ++ entry 1 8 2 3) [] [])
+    ((1 ∷ 1 ∷ []) ∷ (1 ∷ 3 ∷ 1 ∷ 1 ∷ []) ∷ (1 ∷ 3 ∷ 1 ∷ 2 ∷ 1 ∷ 1 ∷ []) ∷ []) gives
+    0 ∷ 0 ∷ 27 ∷ 0 ∷ 27 ∷ 0 ∷ []) ∷
+    -- "each present entry once": with nothing present the list without a pair is an order, and no other list
+    (marksEach (untouched numbered) ([] ∷ (0 ∷ 1 ∷ []) ∷ (3 ∷ 0 ∷ []) ∷ []) gives 0 ∷ 0 ∷ 27 ∷ 0 ∷ 27 ∷ 0 ∷ []) ∷
+    -- "or is a RELEASE that may not be taken yet": an ACQUIRE "of that lock with a larger count" remains in another log, as its last one
+    -- or not
+    (marksEach waitsFor3 ((0 ∷ 3 ∷ []) ∷ (3 ∷ 3 ∷ 0 ∷ 3 ∷ []) ∷ []) gives 27 ∷ 0 ∷ 27 ∷ 1 ∷ []) ∷
+    (marks waitsFor3 (3 ∷ 3 ∷ 3 ∷ 2 ∷ 0 ∷ 3 ∷ 0 ∷ 2 ∷ 3 ∷ 1 ∷ 0 ∷ 1 ∷ []) gives 0 ∷ 0 ∷ []) ∷
+    -- L8: "each RELEASE after every ACQUIRE of that lock with a larger count"
+    (marksEach waitsForTwo ((1 ∷ 1 ∷ 0 ∷ 1 ∷ []) ∷ (2 ∷ 1 ∷ 0 ∷ 1 ∷ []) ∷ []) gives 27 ∷ 1 ∷ 27 ∷ 1 ∷ []) ∷
+    (marksEach waitsForTwo ((1 ∷ 1 ∷ 2 ∷ 1 ∷ 0 ∷ 1 ∷ []) ∷ (2 ∷ 1 ∷ 1 ∷ 1 ∷ 0 ∷ 1 ∷ []) ∷ []) gives replicate 4 0) ∷
+    -- document 01: "no ACQUIRE of that lock with a larger count remains in any log", its own too: this one may never be taken
+    (marksEach
+    (logs (entry 2 0 1 1 ++ entry 3 0 0 2) (entry 1 7 1 1) [] [])
+    ((0 ∷ 2 ∷ 0 ∷ 1 ∷ 1 ∷ 1 ∷ []) ∷ (1 ∷ 1 ∷ 0 ∷ 2 ∷ 0 ∷ 1 ∷ []) ∷ []) gives
+    27 ∷ 0 ∷ 27 ∷ 1 ∷ []) ∷
+    -- "of that lock with a larger count": not one with the same count or a smaller one, nor of another lock, in another log or its own;
+    -- and not one that is not present
+    (marks waitsForNoOther (0 ∷ 1 ∷ 1 ∷ 1 ∷ 2 ∷ 1 ∷ 3 ∷ 1 ∷ []) gives 0 ∷ 0 ∷ []) ∷
+    (marks waitsForNone (3 ∷ 3 ∷ 2 ∷ 2 ∷ 1 ∷ 2 ∷ 0 ∷ 2 ∷ 3 ∷ 2 ∷ 3 ∷ 1 ∷ 2 ∷ 1 ∷ 1 ∷ 1 ∷ 0 ∷ 1 ∷ []) gives 0 ∷ 0 ∷ []) ∷
+    (marks (withHead (logs (entry 3 0 0 1) (entry 2 0 1 1) [] []) 1 2) (0 ∷ 1 ∷ []) gives 0 ∷ 0 ∷ []) ∷
+    -- "by recovery's refusals 21 to 23", and not by 24: such an image has no order: every list is 27 that
+    -- 26 lets pass
+    (marksEach tangled ([] ∷ (0 ∷ 2 ∷ 0 ∷ 1 ∷ 1 ∷ 2 ∷ 1 ∷ 1 ∷ []) ∷ (1 ∷ 2 ∷ []) ∷ []) gives 27 ∷ 0 ∷ 27 ∷ 0 ∷ 27 ∷ 0 ∷ []) ∷
+    (recoveries (tangledBehind ∷ []) gives 24 ∷ []) ∷
+    (marksEach tangledBehind ((2 ∷ 1 ∷ 0 ∷ 3 ∷ []) ∷ (0 ∷ 3 ∷ 2 ∷ 1 ∷ 0 ∷ 2 ∷ 0 ∷ 1 ∷ []) ∷ (0 ∷ 3 ∷ 2 ∷ 1 ∷ 1 ∷ 2 ∷ []) ∷ []) gives
+    flatten (replicate 3 (27 ∷ 2 ∷ []))) ∷
+    -- "The image is tested first, by recovery's refusals 21 to 23", in this order, whatever the list: also where 26 or 27 would follow
+    (marksEach (0 ∷ untouched zeroCells) ([] ∷ (0 ∷ []) ∷ replicate 514 0 ∷ []) gives 21 ∷ 0 ∷ 21 ∷ 0 ∷ 21 ∷ 0 ∷ []) ∷
+    (marksEach (take 1155 (withHead foreign 0 0)) ([] ∷ (0 ∷ []) ∷ (0 ∷ 1 ∷ []) ∷ []) gives 21 ∷ 0 ∷ 21 ∷ 0 ∷ 21 ∷ 0 ∷ []) ∷
+    (marksEach (withHead (alone 4 0 0) 0 1000002) ([] ∷ (0 ∷ []) ∷ (0 ∷ 1 ∷ []) ∷ []) gives 22 ∷ 0 ∷ 22 ∷ 0 ∷ 22 ∷ 0 ∷ []) ∷
+    (marksEach (alone 4 0 0) ([] ∷ (0 ∷ []) ∷ (3 ∷ 1 ∷ []) ∷ []) gives 23 ∷ 0 ∷ 23 ∷ 0 ∷ 23 ∷ 0 ∷ []) ∷
+    (marksEach (withEntry tangled 3 2 0 4000001 1) ([] ∷ (0 ∷ []) ∷ (0 ∷ 2 ∷ []) ∷ []) gives 23 ∷ 0 ∷ 23 ∷ 0 ∷ 23 ∷ 0 ∷ []) ∷
+    -- "26: over 512 words or an odd number, tested next", whatever the words say: also where 27 would follow
+    (marksEach foreign ((0 ∷ []) ∷ (0 ∷ 1 ∷ 1 ∷ 1 ∷ 2 ∷ []) ∷ (0 ∷ 2 ∷ 9 ∷ []) ∷ []) gives 26 ∷ 0 ∷ 26 ∷ 0 ∷ 26 ∷ 0 ∷ []) ∷
+    (marksEach foreign (map (λ count. replicate count 0) (511 ∷ 512 ∷ 513 ∷ 514 ∷ [])) gives 26 ∷ 0 ∷ 27 ∷ 0 ∷ 26 ∷ 0 ∷ 26 ∷ 0 ∷ []) ∷
+    (marksEach tangled ((0 ∷ []) ∷ replicate 514 0 ∷ []) gives 26 ∷ 0 ∷ 26 ∷ 0 ∷ []) ∷
+    -- "at most 256 pairs", as many as four full logs have
+    (marks full fullOrder gives 0 ∷ 0 ∷ []) ∷
+    (marks full (take 510 fullOrder) gives 27 ∷ 255 ∷ []) ∷
+    (marks full (fullOrder ++ (1 ∷ 64 ∷ [])) gives 26 ∷ 0 ∷ []) ∷
+    -- "An accepted one for a machine's image undoes to the cells that recovery gives." Thread 0's RELEASE waits for thread 1's ACQUIRE;
+    -- the entries of a pruned region are no longer present; without a lock two threads' entries are taken in any order
+    (marks (imageOf (ran handedOn)) (1 ∷ 3 ∷ 1 ∷ 2 ∷ 1 ∷ 1 ∷ 0 ∷ 3 ∷ 0 ∷ 2 ∷ 0 ∷ 1 ∷ []) gives 0 ∷ 0 ∷ []) ∷
+    (undoneInOrder (imageOf (ran handedOn)) (pairsOf (1 ∷ 3 ∷ 1 ∷ 2 ∷ 1 ∷ 1 ∷ 0 ∷ 3 ∷ 0 ∷ 2 ∷ 0 ∷ 1 ∷ [])) gives numbered) ∷
+    (marksEach (imageOf (ran handedOn)) ((0 ∷ 3 ∷ []) ∷ (1 ∷ 3 ∷ 1 ∷ 2 ∷ 0 ∷ 3 ∷ []) ∷ []) gives 27 ∷ 0 ∷ 27 ∷ 2 ∷ []) ∷
+    (marksEach
+    (imageOf (ran (handedOn ++ (PRUNE 0 ∷ []))))
+    ((1 ∷ 3 ∷ 1 ∷ 2 ∷ 1 ∷ 1 ∷ []) ∷ (1 ∷ 3 ∷ 1 ∷ 2 ∷ 1 ∷ 1 ∷ 0 ∷ 3 ∷ []) ∷ []) gives
+    0 ∷ 0 ∷ 27 ∷ 3 ∷ []) ∷
+    (marksEach
+    (imageOf (ran (LOG 0 5 ∷ LOG 1 9 ∷ FLUSHLOG 0 ∷ FLUSHLOG 1 ∷ FENCE 0 ∷ FENCE 1 ∷ [])))
+    ((0 ∷ 1 ∷ 1 ∷ 1 ∷ []) ∷ (1 ∷ 1 ∷ 0 ∷ 1 ∷ []) ∷ []) gives
+    replicate 4 0) ∷
+    -- L5: "An entry is present only when its rank word is"
+    (marksEach (imageOf (ran (LOG 0 5 ∷ EVICTWORDS 0 1 3 ∷ []))) ([] ∷ (0 ∷ 1 ∷ []) ∷ []) gives 0 ∷ 0 ∷ 27 ∷ 0 ∷ []) ∷
+    (marksEach (imageOf (ran (LOG 0 5 ∷ EVICTWORDS 0 1 4 ∷ []))) ([] ∷ (0 ∷ 1 ∷ []) ∷ []) gives 27 ∷ 0 ∷ 0 ∷ 0 ∷ []) ∷ []
+
 -- ---- threads, locks and lines that are not the lowest: a rule that looks at the lowest one only is wrong
 
 -- a thread's region without a cell, from ACQUIRE to RELEASE
@@ -786,7 +928,8 @@ edges =
     stateRows ++
     pruneRows ++
     roomRows ++
-    againRows ++ givenRows ++ manyRows ++ keptRows ++ lineRows ++ fenceRows ++ imageRows ++ recoveryRows ++ orderRows ++ otherRows
+    againRows ++
+    givenRows ++ manyRows ++ keptRows ++ lineRows ++ fenceRows ++ imageRows ++ recoveryRows ++ orderRows ++ checkRows ++ otherRows
 
 -- what document 01 asks at its edges is what the definitions give
 abbrev pub Edges : Type 0

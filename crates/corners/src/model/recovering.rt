@@ -10,7 +10,7 @@ fn head(image: &[u64], thread: usize) -> u64 {
 }
 
 // One of the words kind, place, value, rank in the slot of the entry that is so many ranks after the thread's head.
-fn word(image: &[u64], thread: usize, ahead: usize, field: usize) -> u64 {
+pub(crate) fn word(image: &[u64], thread: usize, ahead: usize, field: usize) -> u64 {
     if 3 < thread {
         return 0;
     }
@@ -80,9 +80,26 @@ pub(crate) fn has_bad_entry(image: &[u64]) -> bool {
     false
 }
 
+// How many entries of each thread are present.
+pub(crate) fn all_present(image: &[u64]) -> [u64; 4] {
+    [
+        present(image, 0),
+        present(image, 1),
+        present(image, 2),
+        present(image, 3),
+    ]
+}
+
 // How many entries of a thread remain.
-fn remaining(left: &[u64; 4], thread: usize) -> u64 {
+pub(crate) fn remaining(left: &[u64; 4], thread: usize) -> u64 {
     if thread < 4 { left[thread] } else { 0 }
+}
+
+// The entry is an ACQUIRE of the lock with a larger count.
+pub(crate) fn is_larger(image: &[u64], thread: usize, ahead: usize, lock: u64, count: u64) -> bool {
+    word(image, thread, ahead, 0) == 2
+        && word(image, thread, ahead, 1) == lock
+        && count < word(image, thread, ahead, 2)
 }
 
 // An ACQUIRE of the lock with a larger count remains in some log.
@@ -92,10 +109,7 @@ fn larger_remains(image: &[u64], left: &[u64; 4], lock: u64, count: u64) -> bool
         let thread = place / 64;
         let ahead = place % 64;
         if (ahead as u64) < remaining(left, thread) {
-            if word(image, thread, ahead, 0) == 2
-                && word(image, thread, ahead, 1) == lock
-                && count < word(image, thread, ahead, 2)
-            {
+            if is_larger(image, thread, ahead, lock, count) {
                 return true;
             }
         }
@@ -122,55 +136,59 @@ fn may_be_taken(image: &[u64], left: &[u64; 4], thread: usize) -> bool {
     true
 }
 
-// Takes the thread's last remaining entry; a STORE writes its value back.
-fn take(image: &[u64], left: &mut [u64; 4], cells: &mut [u64; 128], thread: usize) {
-    if 3 < thread {
-        return;
-    }
-    let count = left[thread];
-    if count == 0 {
-        return;
-    }
-    left[thread] = count - 1;
-    let last = (count - 1) as usize;
-    if word(image, thread, last, 0) == 1 {
-        let cell = word(image, thread, last, 1) as usize;
+// Undoes an entry: a STORE writes its value back.
+pub(crate) fn write_back(image: &[u64], cells: &mut [u64; 128], thread: usize, ahead: usize) {
+    if word(image, thread, ahead, 0) == 1 {
+        let cell = word(image, thread, ahead, 1) as usize;
         if cell < 128 {
-            cells[cell] = word(image, thread, last, 2);
+            cells[cell] = word(image, thread, ahead, 2);
         }
     }
 }
 
-// The lowest thread whose last remaining entry may be taken, and 4 where there is none.
-fn lowest(image: &[u64], left: &[u64; 4]) -> usize {
-    let mut thread = 0;
-    while thread < 4 {
+// Takes the thread's last remaining entry: it is as many ranks after the head as entries remain then.
+pub(crate) fn take(left: &mut [u64; 4], thread: usize) {
+    if thread < 4 {
+        let count = left[thread];
+        if 0 < count {
+            left[thread] = count - 1;
+        }
+    }
+}
+
+// The first thread from this one on, with 0 after 3, whose last remaining entry may be taken, and 4 where there is none.
+pub(crate) fn first_from(image: &[u64], left: &[u64; 4], from: u64) -> usize {
+    let mut turn = 0;
+    while turn < 4 {
+        let thread = ((from % 4 + turn) % 4) as usize;
         if may_be_taken(image, left, thread) {
             return thread;
         }
-        thread += 1;
+        turn += 1;
     }
     4
 }
 
-// Takes entry after entry, of which there are at most 256, and says whether some are left with none to take.
+// Some entries remain.
+fn is_some_left(left: &[u64; 4]) -> bool {
+    remaining(left, 0) != 0
+        || remaining(left, 1) != 0
+        || remaining(left, 2) != 0
+        || remaining(left, 3) != 0
+}
+
+// Takes entry after entry, of which there are at most 256, each of the lowest thread that has one to take, and undoes it; says whether
+// some are left with none to take.
 pub(crate) fn is_tangled(image: &[u64], cells: &mut [u64; 128]) -> bool {
-    let mut left = [
-        present(image, 0),
-        present(image, 1),
-        present(image, 2),
-        present(image, 3),
-    ];
+    let mut left = all_present(image);
     let mut turn: usize = 0;
     while turn < 256 {
-        let thread = lowest(image, &left);
-        take(image, &mut left, cells, thread);
+        let thread = first_from(image, &left, 0);
+        take(&mut left, thread);
+        write_back(image, cells, thread, remaining(&left, thread) as usize);
         turn += 1;
     }
-    remaining(&left, 0) != 0
-        || remaining(&left, 1) != 0
-        || remaining(&left, 2) != 0
-        || remaining(&left, 3) != 0
+    is_some_left(&left)
 }
 
 // The kept cells of an image.

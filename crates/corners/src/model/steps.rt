@@ -1,9 +1,9 @@
 // What a step answers: refused because of its input, refused because of the history, or accepted with its number.
 use crate::model::cells;
+use crate::model::happening;
 use crate::model::history;
 use crate::model::history::ANY;
 use crate::model::logs;
-use crate::model::order;
 
 // How many places a step of the kind can name; 0 where the place is unused.
 fn place_count(kind: u64) -> u64 {
@@ -88,7 +88,7 @@ pub(crate) fn is_full(past: &[u64], thread: u64, step: usize) -> bool {
 
 // LOAD 8.
 fn load_refusal(past: &[u64], thread: u64, cell: u64, step: usize) -> u64 {
-    if order::races(past, history::LOAD, thread, cell, step) {
+    if happening::races(past, history::LOAD, thread, cell, step) {
         return 8;
     }
     0
@@ -102,7 +102,7 @@ fn log_refusal(past: &[u64], thread: u64, cell: u64, step: usize) -> u64 {
     if logs::logged(past, thread, cell, step) != 0 {
         return 0;
     }
-    if order::races(past, history::LOG, thread, cell, step) {
+    if happening::races(past, history::LOG, thread, cell, step) {
         return 8;
     }
     if ranks_given(past, thread, step) {

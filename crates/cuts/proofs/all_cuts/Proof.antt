@@ -108,22 +108,19 @@ first-line-requires c κs = search needs
 enum-known-kind : tie.Need-enum-known-kind Inv-loop2 μ-loop2 Inv-loop μ-loop
 enum-known-kind c = search needs
 
-enum-told : tie.Need-enum-told Inv-loop2 μ-loop2 Inv-loop μ-loop
-enum-told c = search needs
-
 write-result-requires-2 : tie.Need-write-result-requires-2 Inv-loop2 μ-loop2 Inv-loop μ-loop
 write-result-requires-2 c κs = search needs
 
 same-length-2 : tie.Need-same-length-2 Inv-loop2 μ-loop2 Inv-loop μ-loop
 same-length-2 c =
-    let at = c .before .before .before .before .before .before .before .before .before in
+    let at = c .before .before .before .before .before .before .before .before in
     omega (arith, c .before .before .write-result2 .kept .0, printing-long (so-far at))
 
 returns-3 : tie.Need-returns-3 Inv-loop2 μ-loop2 Inv-loop μ-loop
 unfolding cutsIn cutsOf
 returns-3 c =
     let wrote = c .before .before .write-result2 in
-    let match = c .before .before .before .before .before in
+    let match = c .before .before .before .before in
     let read = match .before in
     let turn = read .before .before in
     printing-unreadable (so-far (turn .before)) (turn .loop-test .taken) (read .first-line .ensures) by-line (match .match .keys2)
@@ -272,7 +269,6 @@ all-cuts-spec =
     part-rest-end
     first-line-requires
     enum-known-kind
-    enum-told
     write-result-requires-2
     same-length-2
     returns-3

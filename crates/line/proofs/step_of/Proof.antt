@@ -1,20 +1,9 @@
 -- `line::step_of` meets its contract: a field that is no number is nothing.
-use mathlib.Core.Path.{_≡_, refl}
-use mathlib.Core.List.{[], _∷_}
 use borrow.Author.Needs.{needs}
-use denote.Enum.Declared.{tagOf}
-use types.Run.{OneOf, miss}
 use Rattle.line.specs.Lines.{stepLine}
-use Rattle.line.specs.declared.Field.{Field}
-use Rattle.line.specs.declared.Field.the-variants.{Number, Nothing}
-use Rattle.line.proofs.Field as declared
+use Rattle.line.proofs.LineLaws.{no-number}
 use Rattle.line.proofs.step_of.Statement.{statement}
 use Rattle.line.proofs.step_of.Tie as tie
-
--- a field whose tag is not that of a number says nothing
-nothing : (field : Field) → OneOf (1 ∷ []) (tagOf declared.the-type field) → field ≡ Nothing
-nothing (Number number) key = absurd (miss (1 ∷ []) 0 tt key)
-nothing Nothing key = refl
 
 enum-known-kind : tie.Need-enum-known-kind
 enum-known-kind c = search needs
@@ -24,7 +13,7 @@ enum-told c = search needs
 
 returns : tie.Need-returns
 unfolding stepLine
-returns c = rw (nothing (c .before .before .args .kind) (c .before .match .keys2))
+returns c = rw (no-number (c .before .before .args .kind) (c .before .match .keys2))
 
 enum-known-thread : tie.Need-enum-known-thread
 enum-known-thread c = search needs
@@ -37,7 +26,7 @@ unfolding stepLine
 returns-2 c =
     rw (
       c .before .before .before .kind .given .1,
-      nothing (c .before .before .before .before .before .args .thread) (c .before .match2 .keys2),
+      no-number (c .before .before .before .before .before .args .thread) (c .before .match2 .keys2),
     )
 
 enum-known-place : tie.Need-enum-known-place
@@ -52,7 +41,7 @@ returns-3 c =
     rw (
       c .before .before .before .before .before .before .kind .given .1,
       c .before .before .before .thread .given .1,
-      nothing (c .before .before .before .before .before .before .before .before .args .place) (c .before .match3 .keys2),
+      no-number (c .before .before .before .before .before .before .before .before .args .place) (c .before .match3 .keys2),
     )
 
 enum-known-value : tie.Need-enum-known-value
@@ -68,7 +57,7 @@ returns-4 c =
       c .before .before .before .before .before .before .before .before .before .kind .given .1,
       c .before .before .before .before .before .before .thread .given .1,
       c .before .before .before .place .given .1,
-      nothing (c .before .before .before .before .before .before .before .before .before .before .before .args .value)
+      no-number (c .before .before .before .before .before .before .before .before .before .before .before .args .value)
           (c .before .match4 .keys2),
     )
 

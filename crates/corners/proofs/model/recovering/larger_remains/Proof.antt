@@ -16,14 +16,8 @@ loop-holds c = search needs
 remaining-requires : tie.Need-remaining-requires Inv-loop μ-loop
 remaining-requires c κs = search needs
 
-word-requires : tie.Need-word-requires Inv-loop μ-loop
-word-requires c κs = search needs
-
-word-requires-2 : tie.Need-word-requires-2 Inv-loop μ-loop
-word-requires-2 c κs = search needs
-
-word-requires-3 : tie.Need-word-requires-3 Inv-loop μ-loop
-word-requires-3 c κs = search needs
+is-larger-requires : tie.Need-is-larger-requires Inv-loop μ-loop
+is-larger-requires c κs = search needs
 
 returns : tie.Need-returns Inv-loop μ-loop
 returns c = search needs
@@ -48,9 +42,7 @@ larger-remains-spec =
     μ-loop
     loop-holds
     remaining-requires
-    word-requires
-    word-requires-2
-    word-requires-3
+    is-larger-requires
     returns
     add-place
     loop-less
