@@ -1,5 +1,7 @@
 // The accesses of cells that clocks put in order: which LOAD or LOG races, and what each leaves.
 // Past the end of an array a read gives 0 and a store changes nothing.
+#![tactic(auto)]
+
 ghost use Rattle.std.specs.Prelude.{◌≡◌, not, get_or};
 ghost use Rattle.clocks.specs.Clocks.{is_known};
 ghost use Rattle.accesses.specs.Accesses.{has_unknown, loaded_of, logged_cell_of};
@@ -11,7 +13,7 @@ use sizes::{CELLS, THREADS};
 pub const STAMPS: usize = CELLS * THREADS;
 
 // The accepted LOADs and LOGs of each cell that a later one can race with. A stamp is the own number in the thread's clock; 0: none.
-#[derive(Drop)]
+#[derive(Clone, Copy)]
 pub struct Accesses {
     // Each thread's last access of each cell: cell 0's four threads, then cell 1's, and so on.
     pub stamps: [u32; STAMPS],

@@ -2,8 +2,8 @@
 use Rattle.std.specs.Prelude.{ℕ, not, List, ◌∷◌}
 use Rattle.answer.specs.Refusals.{Test, ◌⇒◌, guarded, unless}
 use Rattle.answer.specs.declared.Answer.TheVariants.{Accepted, Releasing, Race}
-use Rattle.log.specs.Entries.{append_tests}
-use Rattle.log.specs.declared.Log.{Log}
+use Rattle.thread_log.specs.Entries.{append_tests}
+use Rattle.thread_log.specs.declared.Log.{Log}
 use Rattle.undo.specs.Entering.{enter_of}
 use Rattle.undo.specs.Regions.{is_closing, is_logged, logged_of}
 use Rattle.event.specs.declared.Event.TheVariants.{Store}

@@ -1,5 +1,7 @@
 // LOAD and LOG on parts of the machine: what each answers, and what it leaves of the accesses and of the thread's log.
 // Every function takes any parts.
+#![tactic(auto)]
+
 ghost use Rattle.std.specs.Prelude.{◌≡◌, [], ◌∷◌};
 ghost use Rattle.answer.specs.Refusals.{◌⇒◌, first_refusal};
 ghost use Rattle.answer.specs.declared.Answer.TheVariants.{Race};
@@ -10,18 +12,18 @@ use accesses::Accesses;
 use answer::Answer;
 use clocks::Clock;
 use event::Event;
-use log::Log;
+use thread_log::Log;
 use undo::{Found, enter};
 
 // A LOAD's answer, beside the accesses after it.
-#[derive(Drop)]
+#[derive(Clone, Copy)]
 pub struct Loaded {
     pub answer: Answer,
     pub accesses: Accesses,
 }
 
 // A LOG's answer, beside the log and the accesses after it.
-#[derive(Drop)]
+#[derive(Clone, Copy)]
 pub struct Logged {
     pub answer: Answer,
     pub log: Log,

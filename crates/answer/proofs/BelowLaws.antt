@@ -1,7 +1,7 @@
 -- What a test of the numbers below a bound tells: one of which it holds, or that it holds of none; and of how many it holds.
 use Prim.Native.Nat.{ℕ, zero, suc, ◌+◌, ◌≤◌, ◌<◌}
 use mathlib.Core.Path.{◌≡◌, refl, sym, ap₂}
-use mathlib.Core.Bool.{Bool, true, false, cond, ◌||◌, or_true, false≢true, true≢false}
+use mathlib.Core.Bool.{Bool, true, false, cond, ◌||◌, or-true, false≢true, true≢false}
 use mathlib.Core.Logic.{by_cases}
 use native.Mathlib.Decide.{ℕ_discrete}
 use native.Mathlib.Numerals.{add-one}
@@ -45,7 +45,7 @@ found-some_below (suc bound) test number below holds =
     by_cases
     (ℕ_discrete number bound)
     (λ same. rw (← same, holds))
-    (λ other. rw (found-some_below bound test number (omega arith) holds, or_true))
+    (λ other. rw (found-some_below bound test number (omega arith) holds, or-true))
 
 -- where the test fails of every number below the bound, it holds of none
 pub none-some_below : (bound : ℕ) (test : ℕ → Bool) → ((number : ℕ) → number < bound → test number ≡ false) → some_below bound test ≡ false

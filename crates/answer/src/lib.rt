@@ -1,8 +1,10 @@
 // The one enum of answers, with document 01's number and value of each case.
+#![tactic(auto)]
+
 ghost use Rattle.std.specs.Prelude.{◌≡◌};
 ghost use Rattle.answer.specs.Answer.{number_of, value_of};
 
-#[derive(Drop)]
+#[derive(Clone, Copy)]
 pub enum Answer {
     // The step was taken; the number that document 01 names for its kind, or 0.
     Accepted(u64),

@@ -1,4 +1,6 @@
 // One entry more in the thread's record: whether there is room for it, and the record after it. Knows nothing of what the entry says.
+#![tactic(auto)]
+
 ghost use Rattle.std.specs.Prelude.{◌≡◌};
 ghost use Rattle.append.specs.Append.{closed_by, grow_of};
 
@@ -8,7 +10,7 @@ use sizes::{LAST_LSN, SLOTS};
 use tail::{Releasing, Tail};
 
 // What an append answers, beside the thread's record after it.
-#[derive(Drop)]
+#[derive(Clone, Copy)]
 pub struct Grown {
     pub answer: Answer,
     pub tail: Tail,

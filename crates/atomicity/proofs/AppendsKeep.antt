@@ -4,7 +4,7 @@ use Prim.Native.Nat.{ℕ, suc, ◌+◌, ◌-◌, ◌≤◌, ◌<◌}
 use native.Mathlib.Decide.{dec_lt, ℕ_discrete}
 use native.Mathlib.Omega.{arith}
 use mathlib.Core.Path.{◌≡◌, refl, sym, ap, ◌∙◌, subst}
-use mathlib.Core.Bool.{Bool, true, false, cond, ◌&&◌, true≢false}
+use mathlib.Core.Bool.{Bool, true, cond, ◌&&◌, true≢false}
 use mathlib.Core.List.{List, ◌∷◌}
 use mathlib.Core.Logic.{◌⊎◌, inl, inr, ⊎_elim, by_cases, ◌≢◌}
 use lib.ListN.{length, get_or, set}
@@ -16,13 +16,13 @@ use Rattle.answer.proofs.RefusalLaws.{AllFail}
 use Rattle.cache.specs.Cache.{cached_at}
 use Rattle.event.specs.Events.{sync_count, kind_of, place_of, closes_of}
 use Rattle.undo.specs.Entering.{enter_of}
-use Rattle.log.specs.Entries.{append_tests, append_of}
+use Rattle.thread_log.specs.Entries.{append_tests, append_of}
 use Rattle.undo.specs.Regions.{is_release, logged_of}
 use Rattle.append.specs.Append.{grown_tail, closed_by}
 use Rattle.event.specs.declared.Event.{Event}
 use Rattle.event.specs.declared.Event.TheVariants.{Empty, Store, Acquire, Release}
 use Rattle.undo.specs.declared.Found.TheVariants.{Nowhere}
-use Rattle.log.specs.declared.Log.{Log}
+use Rattle.thread_log.specs.declared.Log.{Log}
 use Rattle.event.specs.declared.SyncCount.{SyncCount}
 use Rattle.tail.specs.declared.Releasing.TheVariants.{Nothing, Lock}
 use Rattle.undo.proofs.UndoInvariant.{UndoHolds, with_event, enter-holds}

@@ -11,7 +11,7 @@ use borrow.Author.Tests.{eq-eqb, ltb-true, lt-ltb}
 use Rattle.answer.specs.Refusals.{unless, Outcome}
 use Rattle.answer.specs.declared.Answer.TheVariants.{Accepted}
 use Rattle.cache.specs.Cache.{cell_count}
-use Rattle.log.specs.declared.Log.{Log}
+use Rattle.thread_log.specs.declared.Log.{Log}
 use Rattle.reader.specs.Stretch.{image_words}
 use Rattle.machine.specs.Image.{image_of, cut_of}
 use Rattle.machine.specs.Runs.{Step, after}

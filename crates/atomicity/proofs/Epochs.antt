@@ -1,7 +1,7 @@
 -- A step's epoch: 1 and its thread's RELEASE steps before it. It is what the machine stamps an access with.
 use Prim.Native.Nat.{ℕ, suc, ◌<◌, ◌≤◌, ◌+◌}
 use mathlib.Core.Path.{◌≡◌, ◌∙◌}
-use mathlib.Core.Bool.{Bool, true, false, cond, ◌&&◌, and_false}
+use mathlib.Core.Bool.{Bool, true, false, cond, ◌&&◌, and-false}
 use mathlib.Core.List.{List, [], ◌∷◌, ◌++◌}
 use mathlib.Core.Logic.{◌≢◌}
 use native.Mathlib.Omega.{arith}
@@ -40,10 +40,10 @@ module _ (history : List Fed) (next : Fed) (thread : ℕ) where
   releases-refused is_refused = releases-stay (rw is_refused)
 
   pub releases-kind : next.kind ≢ 6 → releases (and_then history next) thread ≡ releases history thread
-  releases-kind is_other = releases-stay (rw (ne_eqb next.kind 6 is_other, and_false))
+  releases-kind is_other = releases-stay (rw (ne_eqb next.kind 6 is_other, and-false))
 
   pub releases-thread : next.thread ≢ thread → releases (and_then history next) thread ≡ releases history thread
-  releases-thread is_other = releases-stay (rw (ne_eqb next.thread thread is_other, and_false))
+  releases-thread is_other = releases-stay (rw (ne_eqb next.thread thread is_other, and-false))
 
   -- an accepted RELEASE of the thread adds one to the number of its RELEASE steps
   pub releases-more : next.accepted ≡ true → next.kind ≡ 6 → next.thread ≡ thread →

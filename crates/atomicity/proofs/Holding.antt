@@ -11,7 +11,7 @@ use lib.Seq.{get_or-set_same, get_or-set_other, set_out}
 use borrow.Author.Tests.{eqb-true}
 use Rattle.sizes.specs.Sizes.{thread_count, lock_count}
 use Rattle.tail.specs.Tail.{is_releasing_lock}
-use Rattle.log.specs.declared.Log.{Log}
+use Rattle.thread_log.specs.declared.Log.{Log}
 use Rattle.tail.specs.declared.Releasing.{Releasing}
 use Rattle.tail.specs.declared.Releasing.TheVariants.{Nothing, Lock as ReleasingLock}
 use Rattle.clocks.specs.Clocks.{clock_at, join_of, raised_of, no_clock}

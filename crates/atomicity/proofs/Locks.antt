@@ -13,7 +13,7 @@ use Rattle.tail.specs.declared.Releasing.{Releasing}
 use Rattle.tail.specs.declared.Releasing.TheVariants.{Nothing, Lock}
 use Rattle.locks.specs.declared.Holder.{Holder}
 use Rattle.locks.specs.declared.Holder.TheVariants.{Nobody, Thread}
-use Rattle.atomicity.proofs.Logged.{Entries, Made, IsReleaseOf, IsAcquireOf, Keeps, Appends, still-is, was, kept-is, new_is}
+use Rattle.atomicity.proofs.Logged.{Entries, Made, IsReleaseOf, IsAcquireOf, Keeps, Appends, still-is, kept-is, new_is}
 use Rattle.atomicity.proofs.Logged.{is-cases}
 
 -- which lock each thread is releasing; each lock's holder, count, and pruned RELEASEs

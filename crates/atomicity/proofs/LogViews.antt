@@ -13,9 +13,9 @@ use borrow.Author.Tests.{eq-eqb, ne_eqb}
 use Rattle.event.specs.Events.{payload_of, closes_of}
 use Rattle.undo.specs.Entering.{enter_of}
 use Rattle.event.specs.declared.Event.{Event}
-use Rattle.log.specs.declared.Log.{Log}
+use Rattle.thread_log.specs.declared.Log.{Log}
 use Rattle.undo.proofs.UndoInvariant.{with_event, with_event_here, with_event-other}
-use Rattle.log.proofs.LogNumbers.{append_numbers}
+use Rattle.thread_log.proofs.LogNumbers.{append_numbers}
 use Rattle.machine.specs.Holds.{no_log}
 use Rattle.atomicity.proofs.Logged.{Entries, Keeps, Appends}
 

@@ -48,6 +48,7 @@ in_made {entries} {start} {cell} {thread} {number} (linked {version} link chain)
     is_thread
     (subst (λ (n : ℕ). Made entries version.thread n) is_number link.says.made)
 in_made (linked link chain) (there is_in) = in_made chain is_in
+in_made unlogged is_in = elim is_in [ ]
 
 module _ {entries : Entries} {locks : Locks} (prunes : PrunesHold entries locks) where
   -- what stands before a pruned version is pruned
@@ -60,6 +61,7 @@ module _ {entries : Entries} {locks : Locks} (prunes : PrunesHold entries locks)
       (subst (λ (n : ℕ). n < entries.head version.thread) is_number (leads_pruned prunes leads pruned))
   older-pruned (linked link chain) (leads-to leads) pruned thread number (there is_in) =
       older-pruned chain link.ordered (leads_pruned prunes leads pruned) thread number is_in
+  older-pruned unlogged _ pruned thread number is_in = elim is_in [ ]
 
   -- where the newest version is pruned, all versions are
   newest_pruned : {start cell : ℕ} {version : Version} {older : List Version} → Link entries start cell version older →

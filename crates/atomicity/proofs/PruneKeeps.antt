@@ -15,12 +15,12 @@ use Rattle.answer.proofs.BelowLaws.{some_below-none}
 use Rattle.cache.specs.Cache.{is_durable}
 use Rattle.event.specs.Events.{sync_count}
 use Rattle.undo.specs.Entering.{live_event}
-use Rattle.log.specs.Entries.{live_count, drop_of}
+use Rattle.thread_log.specs.Entries.{live_count, drop_of}
 use Rattle.undo.specs.Regions.{is_acquire, is_release, oldest_region, is_finished}
 use Rattle.tail.specs.Tail.{is_releasing}
 use Rattle.event.specs.declared.Event.{Event}
 use Rattle.event.specs.declared.Event.TheVariants.{Empty, Store, Acquire, Release}
-use Rattle.log.specs.declared.Log.{Log}
+use Rattle.thread_log.specs.declared.Log.{Log}
 use Rattle.event.specs.declared.SyncCount.{SyncCount}
 use Rattle.tail.specs.declared.Releasing.TheVariants.{Nothing}
 use Rattle.undo.proofs.UndoInvariant.{UndoHolds, prune-holds}
@@ -37,7 +37,7 @@ use Rattle.machine.proofs.StepLaws.{tests_of}
 use Rattle.atomicity.specs.History.{Fed}
 use Rattle.atomicity.proofs.Logged.{Entries, Made, Is, IsAcquireOf, Keeps}
 use Rattle.atomicity.proofs.Locks.{SameLocks, locks_keep, EndsInRelease, prunes-prune}
-use Rattle.atomicity.proofs.Cells.{Version, Chain, linked, In, here, there, PersistCell, made-equal, unchanged, cells_keep, latest}
+use Rattle.atomicity.proofs.Cells.{Version, Chain, unlogged, linked, In, here, there, PersistCell, made-equal, unchanged, cells_keep, latest}
 use Rattle.atomicity.proofs.HistoryRuns.{took_step}
 use Rattle.atomicity.proofs.Places.{places-step}
 use Rattle.atomicity.proofs.RegionsPrune.{PruneRegions}
@@ -91,6 +91,7 @@ in_says {entries} {start} {cell} {thread} {number} (linked {version} {older} lin
       (subst (λ (n : ℕ). Is entries version.thread n (Store cell (latest start older))) is_number link.says),
 )
 in_says (linked link chain) (there is_in) = in_says chain is_in
+in_says unlogged is_in = elim is_in [ ]
 
 module _ {start : Beginning} {machine : Machine} {history : List Fed} {ghost : Ghost}
     (machine_holds : MachineInvariant start machine history ghost) (thread : ℕ) (asked : PruneAsked machine thread) where
@@ -468,8 +469,8 @@ prune_logs machine thread place value =
     counted (with_log machine thread (drop_of (log_at machine.logs thread) (oldest_region (log_at machine.logs thread))))
     (live_event (log_at machine.logs thread) (oldest_region (log_at machine.logs thread) - 1))
   where
-    counted : (moved : Machine) (last : Event) → (count_pruned moved last).logs ≡ moved.logs
-    counted moved Empty = refl
-    counted moved (Store cell old) = refl
-    counted moved (Acquire lock count) = refl
-    counted moved (Release lock count) = refl
+    counted : (dropped : Machine) (last : Event) → (count_pruned dropped last).logs ≡ dropped.logs
+    counted dropped Empty = refl
+    counted dropped (Store cell old) = refl
+    counted dropped (Acquire lock count) = refl
+    counted dropped (Release lock count) = refl

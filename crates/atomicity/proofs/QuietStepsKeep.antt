@@ -1,6 +1,6 @@
 -- The steps that make no entry and move no head keep what holds of a machine and its history: refused steps, LOAD, STORE, FLUSH, FLUSHLOG,
 -- FENCE, the three evictions, and LOG of a cell that has an entry already.
-use Prim.Native.Nat.{ℕ, suc, ◌-◌, ◌≤◌, ◌<◌}
+use Prim.Native.Nat.{ℕ, suc, ◌≤◌, ◌<◌}
 use native.Mathlib.Decide.{ℕ_discrete}
 use native.Mathlib.Omega.{arith}
 use mathlib.Core.Path.{◌≡◌, refl, sym, ap, ◌∙◌, subst}
@@ -15,7 +15,7 @@ use Rattle.answer.proofs.RefusalLaws.{AllFail}
 use Rattle.cache.specs.Cache.{cached_at, persisted_at, line_of, is_pending, store_of, flush_of, fence_of, evict_cell_of}
 use Rattle.cache.specs.declared.Cache.{Cache}
 use Rattle.cache.proofs.CacheLaws as CacheLaws
-use Rattle.log.specs.Entries.{flush_log_of, fence_log_of, evict_words_of}
+use Rattle.thread_log.specs.Entries.{flush_log_of, fence_log_of, evict_words_of}
 use Rattle.ring.specs.Ring.{lsn}
 use Rattle.ring.specs.declared.Lsn.{Lsn}
 use Rattle.tail.specs.Tail.{flushed_tail, fenced_tail}
@@ -24,7 +24,7 @@ use Rattle.undo.specs.Regions as Regions
 use Rattle.undo.specs.Regions.{logged_of}
 use Rattle.event.specs.declared.Event.TheVariants.{Store, Release}
 use Rattle.undo.specs.declared.Found.TheVariants.{At}
-use Rattle.log.specs.declared.Log.{Log}
+use Rattle.thread_log.specs.declared.Log.{Log}
 use Rattle.undo.proofs.UndoInvariant.{UndoHolds, flush-holds, fence-holds, tear-holds}
 use Rattle.undo.proofs.LoggedLaws.{logged-at}
 use Rattle.accesses.specs.Accesses.{loaded_of}

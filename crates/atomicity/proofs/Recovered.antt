@@ -15,17 +15,16 @@ use Rattle.sizes.specs.Sizes.{thread_count, lock_count}
 use Rattle.answer.specs.Lists.{some_below}
 use Rattle.answer.proofs.BelowLaws.{none-some_below}
 use Rattle.answer.proofs.ListLaws.{length-tab, get_d-tab, get_d_map}
-use Rattle.cache.proofs.CacheLaws as CacheLaws
 use Rattle.event.specs.Events.{sync_count, kind_of, place_of, value_of, payload_of}
 use Rattle.entry.specs.Words.{words_of}
 use Rattle.reader.specs.Stretch.{heads_at, stretch_of, present_of}
 use Rattle.event.specs.declared.Event.{Event}
 use Rattle.event.specs.declared.Event.TheVariants.{Empty, Store, Acquire, Release}
-use Rattle.log.specs.declared.Log.{Log}
+use Rattle.thread_log.specs.declared.Log.{Log}
 use Rattle.reader.proofs.StretchLaws.{Reads}
-use Rattle.log.proofs.ImageLaws.{logs-read}
-use Rattle.log.proofs.PresentLaws.{PresentAre, present_are}
-use Rattle.log.proofs.SlotLaws.{WordsAre}
+use Rattle.thread_log.proofs.ImageLaws.{logs-read}
+use Rattle.thread_log.proofs.PresentLaws.{PresentAre, present_are}
+use Rattle.thread_log.proofs.SlotLaws.{WordsAre}
 use Rattle.machine.specs.Holds.{no_log, lock_of}
 use Rattle.machine.specs.Image.{image_of}
 use Rattle.machine.specs.declared.Machine.{Machine}

@@ -1,5 +1,5 @@
 -- RELEASE keeps what holds of a machine and its history.
-use Prim.Native.Nat.{ℕ, suc, ◌+◌, ◌-◌, ◌<◌}
+use Prim.Native.Nat.{ℕ, suc, ◌+◌, ◌<◌}
 use native.Mathlib.Decide.{ℕ_discrete}
 use native.Mathlib.Omega.{arith}
 use mathlib.Core.Path.{◌≡◌, refl, sym, ap, ◌∙◌}
@@ -10,8 +10,8 @@ use Rattle.sizes.specs.Sizes.{thread_count}
 use Rattle.answer.proofs.RefusalLaws.{AllFail}
 use Rattle.event.specs.Events.{sync_count}
 use Rattle.undo.specs.Entering.{end_release_of}
-use Rattle.tail.specs.Tail.{is_releasing, released_tail}
-use Rattle.log.specs.declared.Log.{Log}
+use Rattle.tail.specs.Tail.{released_tail}
+use Rattle.thread_log.specs.declared.Log.{Log}
 use Rattle.undo.proofs.UndoInvariant.{UndoHolds, release-holds}
 use Rattle.machine.specs.Effects.{release_effect, effect}
 use Rattle.machine.specs.Holds.{lock_of}

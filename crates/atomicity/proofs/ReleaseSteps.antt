@@ -2,7 +2,7 @@
 use Prim.Native.Nat.{ℕ}
 use native.Mathlib.Omega.{arith}
 use mathlib.Core.Path.{◌≡◌, refl, sym, ◌∙◌}
-use mathlib.Core.Bool.{Bool, true, false, ◌&&◌, and_false}
+use mathlib.Core.Bool.{Bool, true, false, ◌&&◌, and-false}
 use mathlib.Core.List.{List}
 use mathlib.Core.Logic.{inr}
 use lib.Dec.{eqb}
@@ -45,7 +45,7 @@ releases_agree fed lock one other agree = by_tests fed.accepted refl (eqb fed.ki
 
 pub releases_fail : (fed : Fed) (lock : ℕ) (test : Bool) → (LogsRelease fed lock → test ≡ false) → if_releases fed lock test ≡ false
 releases_fail fed lock test fails =
-    releases_agree fed lock test false fails ∙ and_false (fed.accepted && eqb fed.kind 5 && eqb fed.place lock)
+    releases_agree fed lock test false fails ∙ and-false (fed.accepted && eqb fed.kind 5 && eqb fed.place lock)
 
 -- the LOGREL step at this place made the RELEASE entry at which it stands
 pub record StandsAt (history : List Fed) (entries : Entries) (place lock : ℕ) : Type 0 where

@@ -1,5 +1,5 @@
 -- The machine, its history and the reference model that was fed it: all concerns together, kept by every step.
-use Prim.Native.Nat.{ℕ, suc, ◌-◌, ◌<◌}
+use Prim.Native.Nat.{ℕ, suc, ◌<◌}
 use native.Mathlib.Decide.{dec_lt, ℕ_discrete}
 use native.Mathlib.Omega.{arith}
 use mathlib.Core.Path.{◌≡◌, refl, sym, ap, ◌∙◌}
@@ -12,7 +12,7 @@ use lib.ListN.{length, set, take}
 use lib.Seq.{take-append-le, take-append_seam}
 use Rattle.sizes.specs.Sizes.{thread_count, entry_words}
 use Rattle.answer.proofs.RefusalLaws.{AllFail}
-use Rattle.log.specs.Entries.{flush_log_of, fence_log_of, evict_words_of}
+use Rattle.thread_log.specs.Entries.{flush_log_of, fence_log_of, evict_words_of}
 use Rattle.undo.specs.Entering.{end_release_of}
 use Rattle.tail.specs.Tail.{flushed_tail, fenced_tail, released_tail}
 use Rattle.undo.specs.Regions.{is_release, logged_of}

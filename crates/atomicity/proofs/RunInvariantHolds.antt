@@ -14,8 +14,8 @@ use Rattle.cache.specs.Cache.{cell_count}
 use Rattle.cache.proofs.CacheLaws as CacheLaws
 use Rattle.event.specs.Events.{payload_of}
 use Rattle.event.specs.declared.Event.TheVariants.{Empty}
-use Rattle.log.specs.declared.Log.{Log}
-use Rattle.log.proofs.Idle.{idle_holds}
+use Rattle.thread_log.specs.declared.Log.{Log}
+use Rattle.thread_log.proofs.Idle.{idle_holds}
 use Rattle.tail.specs.declared.Releasing.TheVariants.{Lock}
 use Rattle.machine.specs.Holds.{lock_of, fresh_machine, start_of}
 use Rattle.machine.specs.Runs.{Step, after}

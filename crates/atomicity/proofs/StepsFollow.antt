@@ -14,12 +14,12 @@ use Rattle.tail.specs.Tail.{flushed_tail, fenced_tail, released_tail}
 use Rattle.append.specs.Append.{grown_tail}
 use Rattle.event.specs.Events.{sync_count}
 use Rattle.undo.specs.Entering.{live_event, enter_of, end_release_of}
-use Rattle.log.specs.Entries.{flush_log_of, fence_log_of, evict_words_of, drop_of, append_of}
+use Rattle.thread_log.specs.Entries.{flush_log_of, fence_log_of, evict_words_of, drop_of, append_of}
 use Rattle.undo.specs.Regions.{oldest_region, logged_of}
 use Rattle.event.specs.declared.Event.{Event}
 use Rattle.event.specs.declared.Event.TheVariants.{Empty, Store, Acquire, Release}
 use Rattle.undo.specs.declared.Found.TheVariants.{Nowhere, At}
-use Rattle.log.specs.declared.Log.{Log}
+use Rattle.thread_log.specs.declared.Log.{Log}
 use Rattle.ring.specs.declared.Lsn.{Lsn}
 use Rattle.clocks.specs.Clocks.{no_clock, start_clocks}
 use Rattle.accesses.specs.Accesses.{logged_cell_of}

@@ -67,12 +67,12 @@ newest_value start no-version = refl
 newest_value start (is-pruned pruned) = rw (lt-ltb _ _ pruned)
 
 -- the book's cell is what the pruned versions left
-pub written_pruned : {entries : Entries} {home : ℕ → ℕ → ℕ} {versions : List Version} {stores : List Write}
-    (regions : List Region) (cells : List ℕ) (cell : ℕ) →
+pub written_pruned : {entries : Entries} {home : ℕ → ℕ → ℕ} (regions : List Region) (cells : List ℕ) (cell : ℕ)
+    {versions : List Version} {stores : List Write} →
     cell < length cells → Tracks home (get_or cells cell 0) cell versions stores → Settled entries regions home versions →
     get_or (written regions cells stores) cell 0 ≡ pruned_value entries (get_or cells cell 0) versions
 unfolding written
-written_pruned regions cells cell under nothing settled = refl
+written_pruned regions cells cell under nothing holds = refl
 written_pruned {entries} regions cells cell under (logged thread number tracks) (above committed pruned below) =
     let before = written_pruned regions cells cell under tracks below in
     by_cases
@@ -89,8 +89,8 @@ written_pruned {entries} {home} regions cells cell under (stored {version} {olde
     let live = le-ltb version.lsn (entries.head version.thread) (omega (arith, not_pruned)) in
     let unchanged = ap (λ (list : List ℕ). get_or list cell 0) (written_uncommitted regions cells stores store (committed ∙ live)) in
     rw live (unchanged ∙ rw live at before))
-written_pruned regions cells cell under (elsewhere {stores} store differs tracks) settled =
-    written-other regions cells stores store cell differs ∙ written_pruned regions cells cell under tracks settled
+written_pruned regions cells cell under (elsewhere {stores} store differs tracks) holds =
+    written-other regions cells stores store cell differs ∙ written_pruned regions cells cell under tracks holds
 
 in_restored : {thread number value : ℕ} {version : Version} {older : List Version} →
     In thread number (version ∷ older) → In thread number (restored value (version ∷ older))
@@ -119,6 +119,7 @@ version_homes {home} {after} {thread} {number} same (linked {version} link chain
     (subst (λ (n : ℕ). after version.thread n ≡ home version.thread n) is_number
     (same version.thread version.lsn link.says.made))
 version_homes same (linked link chain) (there is_in) = version_homes same chain is_in
+version_homes same unlogged is_in = elim is_in [ ]
 
 pub tracks_kept : {entries : Entries} {home after : ℕ → ℕ → ℕ} {start cell : ℕ} {versions : List Version} {stores : List Write} →
     ((thread number : ℕ) → Made entries thread number → after thread number ≡ home thread number) →

@@ -1,4 +1,6 @@
 // Many cells logged in one call: LOG steps of one thread, in order, up to the first that is refused.
+#![tactic(auto)]
+
 ghost use Rattle.std.specs.Prelude.{◌≡◌};
 ghost use Rattle.machine.specs.Runs.{Reached};
 ghost use Rattle.batch.specs.Batch.{log_cells_of};
@@ -10,7 +12,7 @@ use machine::Machine;
 const MOST_CELLS: usize = 16;
 
 // What a call leaves: how many of its cells were accepted, the refusal that stopped it, or 0, and the machine.
-#[derive(Drop)]
+#[derive(Clone, Copy)]
 pub struct CellsLogged {
     pub count: u64,
     pub answer: Answer,

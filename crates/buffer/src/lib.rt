@@ -1,4 +1,6 @@
 // Text into a lent buffer. What does not fit is not written.
+#![tactic(auto)]
+
 ghost use Rattle.std.specs.Prelude.{◌≡◌};
 ghost use Rattle.buffer.specs.Buffers.{written, place_after};
 ghost use Rattle.number.specs.Decimal.{decimal_text};
@@ -28,6 +30,6 @@ pub fn write_number(buffer: &mut [u8], place: usize, number: u64) -> usize
     ensures buffer_after { buffer.new ≡ written buffer.old place (decimal_text number) }
 {
     let mut digits = [0u8; 20];
-    let count = io::decimal(number, &mut digits);
-    write(buffer, place, &digits[..count])
+    let start = itoa::write_digits(number, &mut digits, 20);
+    write(buffer, place, &digits[start..])
 }

@@ -1,4 +1,6 @@
 // Cells and lines: what each cell holds in the cache and in persistent memory. Knows nothing of logs, locks or regions.
+#![tactic(auto)]
+
 ghost use Rattle.std.specs.Prelude.{◌≡◌, false, ◌*◌, ◌%◌, ◌<◌, length, eqb};
 ghost use Rattle.sizes.specs.Sizes.{thread_count};
 ghost use Rattle.answer.specs.Lists.{set_from};
@@ -7,7 +9,7 @@ ghost use Rattle.cache.specs.Cache.{line_count, cache_of, is_durable, pending_co
 use sizes::{CELLS, LINE_CELLS, LINES, THREADS};
 
 // What each cell holds, and which flushes a fence has yet to complete.
-#[derive(Drop)]
+#[derive(Clone, Copy)]
 pub struct Cache {
     // Document 01's seen content of each cell, which a cut loses.
     pub cached: [u64; CELLS],

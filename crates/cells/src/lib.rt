@@ -1,4 +1,6 @@
 // Copying cells: the first 128 words of one list of words over those of another.
+#![tactic(auto)]
+
 ghost use Rattle.std.specs.Prelude.{◌≡◌};
 ghost use Rattle.cells.specs.Cells.{copied_of};
 

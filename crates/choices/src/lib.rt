@@ -1,4 +1,6 @@
 // Every choice of the lines in which two contents differ, tried: over plain arrays, whatever machine they are of.
+#![tactic(auto)]
+
 ghost use Rattle.std.specs.Prelude.{◌≡◌, ◌≤◌, ◌<◌, length, take};
 ghost use Rattle.cache.specs.Cache.{cell_count, line_count};
 ghost use Rattle.choices.specs.Choices.{most_tried, differs_in, lowest_lines};
@@ -10,7 +12,7 @@ use sizes::{CELLS, LINE_CELLS, LINES};
 const MOST_TRIED: usize = 8;
 
 // The lines of which every choice is tried: the first so many.
-#[derive(Drop)]
+#[derive(Clone, Copy)]
 struct Tried {
     lines: [usize; MOST_TRIED],
     count: usize,
@@ -43,7 +45,8 @@ fn differing_lines(seen: &[u64], kept: &[u64]) -> Tried
     let mut count = 0;
     let mut line = 0;
     while line < LINES {
-        if count < MOST_TRIED {
+        let has_room = count < MOST_TRIED;
+        if has_room {
             if line_differs(seen, kept, line) {
                 lines[count] = line;
                 count += 1;

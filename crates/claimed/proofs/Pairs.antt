@@ -5,19 +5,16 @@ use mathlib.Core.Bool.{Bool, true, false, cond}
 use mathlib.Core.List.{List, [], ◌∷◌, ◌++◌}
 use native.Mathlib.Numerals.{add-one}
 use native.Mathlib.Omega.{arith}
-use denote.Enum.Declared.{tag_of}
-use types.Run.{OneOf, miss}
 use lib.ListN.{length, take, drop}
 use borrow.Author.Tests.{lt-ltb, le-ltb}
 use Rattle.answer.specs.declared.Answer.TheVariants.{Unreadable as UnreadableAnswer}
-use Rattle.bytes.specs.Bytes.{index_of}
+use Rattle.scan.specs.Find.{index_of}
 use Rattle.machine.specs.Image.{image_of}
 use Rattle.machine.specs.declared.Machine.{Machine}
 use Rattle.order.specs.declared.Checked.{Checked}
 use Rattle.line.specs.Lines.{newline, first_line, lines_of}
 use Rattle.line.specs.declared.Line.{Line}
 use Rattle.line.specs.declared.Line.TheVariants.{Step, Undo, Unreadable}
-use Rattle.line.specs.contracts.Line as declared
 use Rattle.line.proofs.TextLaws.{part_rest}
 use Rattle.print.specs.Printed.{result_text, marked_text}
 use Rattle.listing.specs.Transcript.{most_input}
@@ -39,11 +36,11 @@ reading-start input pairs first long =
 
 -- a line that says no entry of the order can't be read
 no-entry : (machine : Machine) (words : List ℕ) (number : ℕ) (line : Line) (lines : List Line) →
-    OneOf (0 ∷ 2 ∷ []) (tag_of declared.the_type line) → order_text machine words number (line ∷ lines) ≡ result_text number UnreadableAnswer
+    ((thread rank : ℕ) → line ≡ Undo thread rank → ⊥) → order_text machine words number (line ∷ lines) ≡ result_text number UnreadableAnswer
 unfolding order_text
-no-entry machine words number (Step kind thread place value) lines key = refl
-no-entry machine words number (Undo thread rank) lines key = absurd (miss (0 ∷ 2 ∷ []) 1 tt key)
-no-entry machine words number Unreadable lines key = refl
+no-entry machine words number (Step kind thread place value) lines no_undo = refl
+no-entry machine words number (Undo thread rank) lines no_undo = absurd (no_undo thread rank refl)
+no-entry machine words number Unreadable lines no_undo = refl
 
 module _ {input : List ℕ} {first : ℕ} {pairs : List ℕ} {number count from : ℕ} (at : Reading input first pairs number count from) where
   fits : count ≤ length pairs
@@ -61,13 +58,13 @@ module _ {input : List ℕ} {first : ℕ} {pairs : List ℕ} {number count from 
   }
 
   module _ (more : from < length input) {line : Line} (read : line ≡ first_line (lent from input)) where
-    pub reading-stops : OneOf (0 ∷ 2 ∷ []) (tag_of declared.the_type line) → PairsRead input first false number count pairs
-    reading-stops key = record {
+    pub reading-stops : ((thread rank : ℕ) → line ≡ Undo thread rank → ⊥) → PairsRead input first false number count pairs
+    reading-stops no_undo = record {
       within = fits;
       text = λ machine.
           at.left machine
           ∙ ap (order_text machine at.words number) (lines_at input from more read)
-          ∙ no-entry machine at.words number line _ key;
+          ∙ no-entry machine at.words number line _ no_undo;
     }
 
     module _ {thread rank : ℕ} (says : line ≡ Undo thread rank) {length' : ℕ} (long : length' ≡ index_of newline (lent from input) + 1) where

@@ -4,10 +4,8 @@ use mathlib.Core.Path.{◌≡◌, refl, ap, ◌∙◌}
 use mathlib.Core.List.{List, [], ◌∷◌}
 use native.Mathlib.Numerals.{add-one}
 use native.Mathlib.Omega.{arith}
-use denote.Enum.Declared.{tag_of}
-use types.Run.{OneOf, miss}
 use lib.ListN.{length, drop}
-use Rattle.bytes.specs.Bytes.{index_of}
+use Rattle.scan.specs.Find.{index_of}
 use Rattle.machine.specs.Runs.{Reached}
 use Rattle.machine.specs.declared.Machine.{Machine}
 use Rattle.script.specs.Script.{script_of}
@@ -15,7 +13,6 @@ use Rattle.script.proofs.ScriptLaws.{script_reached}
 use Rattle.line.specs.Lines.{newline, first_line, lines_of}
 use Rattle.line.specs.declared.Line.{Line}
 use Rattle.line.specs.declared.Line.TheVariants.{Step, Undo, Unreadable}
-use Rattle.line.specs.contracts.Line as declared
 use Rattle.listing.specs.Transcript.{start_machine}
 use Rattle.listing.proofs.InputLaws.{lent, lines_end, lines_at, step-read, line-within, lines-on}
 use Rattle.listing.proofs.Printing.{started-reached}
@@ -33,12 +30,12 @@ taking_start input is =
     record { reached = started-reached is; within = omega arith; counted = omega arith; left = rw is }
 
 -- from a line that says no step on, the order stands
-order_begins : (machine : Machine) (number : ℕ) (line : Line) (lines : List Line) → OneOf (1 ∷ 2 ∷ []) (tag_of declared.the_type line) →
+order_begins : (machine : Machine) (number : ℕ) (line : Line) (lines : List Line) → ((kind thread place value : ℕ) → line ≡ Step kind thread place value → ⊥) →
     steps_text machine number (line ∷ lines) ≡ order_text machine [] number (line ∷ lines)
 unfolding steps_text
-order_begins machine number (Step kind thread place value) lines key = absurd (miss (1 ∷ 2 ∷ []) 0 tt key)
-order_begins machine number (Undo thread rank) lines key = refl
-order_begins machine number Unreadable lines key = refl
+order_begins machine number (Step kind thread place value) lines no_step = absurd (no_step kind thread place value refl)
+order_begins machine number (Undo thread rank) lines no_step = refl
+order_begins machine number Unreadable lines no_step = refl
 
 module _ {input : List ℕ} {machine : Machine} {number from : ℕ} (at : Taking input machine number from) where
   taken : steps_text machine number (lines_of (drop from input)) ≡ order_text machine [] number (lines_of (drop from input)) →
@@ -51,8 +48,8 @@ module _ {input : List ℕ} {machine : Machine} {number from : ℕ} (at : Taking
   taking-end none = taken (rw (lines_end input none))
 
   module _ (more : from < length input) {line : Line} (read : line ≡ first_line (lent from input)) where
-    pub taking-stops : OneOf (1 ∷ 2 ∷ []) (tag_of declared.the_type line) → StepsTaken input machine number from
-    taking-stops key = taken (rw (lines_at input from more read) (order_begins machine number line _ key))
+    pub taking-stops : ((kind thread place value : ℕ) → line ≡ Step kind thread place value → ⊥) → StepsTaken input machine number from
+    taking-stops no_step = taken (rw (lines_at input from more read) (order_begins machine number line _ no_step))
 
     module _ {kind thread place value : ℕ} (says : line ≡ Step kind thread place value) {length' : ℕ}
         (long : length' ≡ index_of newline (lent from input) + 1) where

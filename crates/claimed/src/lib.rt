@@ -1,4 +1,6 @@
 // A listing with a claimed undo order: takes its steps, cuts, and marks the order against the image.
+#![tactic(auto)]
+
 ghost use Rattle.std.specs.Prelude.{◌≡◌, ◌+◌, ◌≤◌, length};
 ghost use Rattle.machine.specs.Runs.{Reached};
 ghost use Rattle.script.specs.Script.{script_of};
@@ -23,7 +25,7 @@ const KEPT_WORDS: usize = MOST_WORDS + 2;
 pub const VERDICT_ROOM: usize = 78;
 
 // The machine after the step lines, and where the lines after them begin.
-#[derive(Drop)]
+#[derive(Clone, Copy)]
 struct Taken {
     machine: Machine,
     number: u64,
@@ -31,7 +33,7 @@ struct Taken {
 }
 
 // How many words of an order were read; or the number of the line that says none of it.
-#[derive(Drop)]
+#[derive(Clone, Copy)]
 struct Read {
     ended: bool,
     number: u64,
@@ -107,7 +109,8 @@ fn read_pairs(input: &[u8], first: u64, pairs: &mut [u64]) -> Read
                 count,
             };
         };
-        if count <= MOST_WORDS {
+        let has_room = count <= MOST_WORDS;
+        if has_room {
             pairs[count] = thread;
             pairs[count + 1] = rank;
             count += 2;

@@ -1,4 +1,6 @@
 // Clocks: what a thread knows of the RELEASE steps of each.
+#![tactic(auto)]
+
 ghost use Rattle.std.specs.Prelude.{◌≡◌, cond, max};
 ghost use Rattle.clocks.specs.Clocks.{clock_at, join_of, one_more, raise_of};
 
@@ -7,7 +9,7 @@ const LARGEST: u32 = 4294967295;
 
 // One number for each thread. A thread's own number is 1 and the RELEASE steps it took; of another thread, how many of that one's
 // RELEASE steps happen before.
-#[derive(Drop)]
+#[derive(Clone, Copy)]
 pub struct Clock {
     pub t0: u32,
     pub t1: u32,

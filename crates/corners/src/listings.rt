@@ -15,7 +15,7 @@ const STAGES: usize = 26;
 pub(crate) const LARGE: u64 = 18446744073709551615;
 
 // A step's four words.
-#[derive(Drop)]
+#[derive(Clone, Copy)]
 pub(crate) struct Step {
     pub(crate) kind: u64,
     pub(crate) thread: u64,

@@ -1,6 +1,8 @@
 // Runs listings on the machine and on the model, with cuts, and says whether the two agree: the corner point that is not marked P, and
 // generated listings; logs many cells in one call on the machine, and one by one on the model; recovers the cuts' images on both, as they
 // are and damaged; marks claimed undo orders of these images by the checker and by the model; and prints how often each answer was met.
+#![tactic(auto)]
+
 ghost use Rattle.std.specs.Prelude.{◌≡◌, length};
 
 mod alike;
@@ -8,11 +10,12 @@ mod calls;
 mod damage;
 mod listings;
 mod model;
-mod orders;
 mod tally;
+mod undo_orders;
 
 use alike::run_alike;
 use listings::{Step, generated, put};
+use std::io;
 use tally::COUNTS;
 
 // The generated listings.
@@ -103,18 +106,16 @@ fn listings_alike(met: &mut [u64; COUNTS]) -> u64 {
     alike
 }
 
-fn main() {
+fn main(rt: HostRuntime) -> io::Result<()> {
     if full_log_agrees() {
-        io::write_all(1, b"a released region of 3 entries and 61 LOGs: agrees\n");
+        println!(rt; "a released region of 3 entries and 61 LOGs: agrees")?;
     } else {
-        io::write_all(1, b"a released region of 3 entries and 61 LOGs: DIFFERS\n");
+        println!(rt; "a released region of 3 entries and 61 LOGs: DIFFERS")?;
     }
     let mut met = [0u64; COUNTS];
-    io::write_all(
-        1,
-        b"listings of 200 steps, each with 41 cuts, on which machine and model agree, of 200: ",
-    );
-    io::print_decimal(1, listings_alike(&mut met));
-    io::write_all(1, b"\n");
-    tally::print(&met);
+    let alike = listings_alike(&mut met);
+    println!(rt;
+        "listings of 200 steps, each with 41 cuts, on which machine and model agree, of 200: {alike}"
+    )?;
+    tally::print(&rt, &met)
 }

@@ -4,18 +4,18 @@
 //
 // `corners` compares answers, numbers given, whole images and recovered cells with the machine's, and answers to claimed undo orders with
 // the checker's. Every function here is proved to be safe and to end; nothing else is promised of it.
-mod cells;
 pub(crate) mod drawing;
 mod happening;
 pub(crate) mod history;
-mod image;
 mod logs;
 pub(crate) mod marking;
+mod model_cells;
+mod model_image;
 mod recovering;
 mod steps;
 
 // A step's answer, and the number beside it.
-#[derive(Drop)]
+#[derive(Clone, Copy)]
 pub(crate) struct Verdict {
     pub(crate) answer: u64,
     pub(crate) number: u64,
@@ -60,7 +60,7 @@ pub(crate) fn is_stored_since_entry(past: &[u64], thread: u64, cell: u64) -> boo
 
 // After a history, some line has the thread's mark.
 pub(crate) fn has_marked_line(past: &[u64], thread: u64) -> bool {
-    0 < cells::marked_lines(past, thread, history::next_step(past))
+    0 < model_cells::marked_lines(past, thread, history::next_step(past))
 }
 
 // After a history, some entry of the thread is marked and not yet firm.
@@ -71,7 +71,7 @@ pub(crate) fn has_unfenced_entry(past: &[u64], thread: u64) -> bool {
 // After a history, the cell's kept content is not its seen one.
 pub(crate) fn is_unkept(start: &[u64], past: &[u64], cell: u64) -> bool {
     let step = history::next_step(past);
-    cells::kept(start, past, cell, step) != cells::seen(start, past, cell, step)
+    model_cells::kept(start, past, cell, step) != model_cells::seen(start, past, cell, step)
 }
 
 // After a history, some slot keeps a part of an entry alone: over words of an older entry, or over zeros.
@@ -82,7 +82,7 @@ pub(crate) fn has_torn_entry(past: &[u64], is_over_entry: bool) -> bool {
 // Writes the image of a cut after a history; 21, and the buffer as it was, where it is not of 1,156 words.
 pub(crate) fn cut(start: &[u64], past: &[u64], image: &mut [u64]) -> u64 {
     if image.len() == 1156 {
-        image::write(start, past, image);
+        model_image::write(start, past, image);
         return 0;
     }
     21

@@ -1,5 +1,7 @@
 // How often each answer was met, and the tables of that.
 use crate::model::history;
+use std::io;
+use std::io::Write;
 
 // The answers to steps, 0 to 19.
 const ANSWERS: usize = 20;
@@ -265,187 +267,171 @@ fn pairs(met: &[u64; COUNTS], is_allowed: bool, is_met: bool) -> u64 {
 }
 
 // Prints a number at the end of six places.
-fn print_number(number: u64) {
-    if number < 10 {
-        io::write_all(1, b"     ");
-    } else if number < 100 {
-        io::write_all(1, b"    ");
-    } else if number < 1000 {
-        io::write_all(1, b"   ");
-    } else if number < 10000 {
-        io::write_all(1, b"  ");
-    } else {
-        io::write_all(1, b" ");
-    }
-    io::print_decimal(1, number);
+fn print_number<P: Print>(rt: &P, number: u64) -> io::Result<()> {
+    print!(rt; " {number:>5}")
 }
 
 // Prints ten bytes of a text, from a place on.
-fn print_part(text: &[u8], from: usize) {
+fn print_part<P: Print>(rt: &P, text: &[u8], from: usize) -> io::Result<()> {
     if text.len() < 10 {
-        return;
+        return Ok(());
     }
     if text.len() - 10 < from {
-        return;
+        return Ok(());
     }
     let to = from + 10;
-    io::write_all(1, &text[from..to]);
+    io::writer(rt).write_all(&text[from..to])
 }
 
 // Prints so many counts from a place on, as a row.
-fn print_counts(met: &[u64; COUNTS], from: usize, columns: usize) {
+fn print_counts<P: Print>(
+    rt: &P,
+    met: &[u64; COUNTS],
+    from: usize,
+    columns: usize,
+) -> io::Result<()> {
     let mut column: usize = 0;
     while column < columns {
-        print_number(count(met, from % 1000 + column % 1000));
+        print_number(rt, count(met, from % 1000 + column % 1000))?;
         column += 1;
     }
-    io::write_all(1, b"\n");
+    println!(rt;)
 }
 
 // Prints rows of so many counts from a place on, one for each ten bytes of their names.
-fn print_rows(met: &[u64; COUNTS], names: &[u8], from: usize, columns: usize) {
+fn print_rows<P: Print>(
+    rt: &P,
+    met: &[u64; COUNTS],
+    names: &[u8],
+    from: usize,
+    columns: usize,
+) -> io::Result<()> {
     let mut name: usize = 0;
     let mut at = from;
     while name < names.len() / 10 {
-        print_part(names, name * 10);
-        print_counts(met, at, columns);
+        print_part(rt, names, name * 10)?;
+        print_counts(rt, met, at, columns)?;
         at = at % 1000 + columns % 100;
         name += 1;
     }
+    Ok(())
 }
 
 // Prints the table of kinds against answers.
-fn print_steps(met: &[u64; COUNTS]) {
-    io::write_all(
-        1,
-        b"kind           0     1     2     3     4     5     6     7     8     9",
-    );
-    io::write_all(
-        1,
-        b"    10    11    12    13    14    15    16    17    18    19\n",
-    );
+fn print_steps<P: Print>(rt: &P, met: &[u64; COUNTS]) -> io::Result<()> {
+    print!(rt; "kind           0     1     2     3     4     5     6     7     8     9")?;
+    println!(rt; "    10    11    12    13    14    15    16    17    18    19")?;
     print_rows(
+        rt,
         met,
         b"LOAD      LOG       STORE     ACQUIRE   LOGREL    RELEASE   FLUSH     ",
         0,
         ANSWERS,
-    );
+    )?;
     print_rows(
+        rt,
         met,
         b"FLUSHLOG  FENCE     PRUNE     11        EVICTLOG  EVICTCELL EVICTWORDSother     ",
         7 * ANSWERS,
         ANSWERS,
-    );
+    )
 }
 
 // Prints the table of recovery's answers.
-fn print_recovered(met: &[u64; COUNTS]) {
-    io::write_all(1, b"recovery       0    21    22    23    24\n");
-    print_rows(met, b"cut       damaged   ", RECOVERED, 5);
+fn print_recovered<P: Print>(rt: &P, met: &[u64; COUNTS]) -> io::Result<()> {
+    println!(rt; "recovery       0    21    22    23    24")?;
+    print_rows(rt, met, b"cut       damaged   ", RECOVERED, 5)
 }
 
 // Prints six rows of answers to claimed undo orders from a place on.
-fn print_changes(met: &[u64; COUNTS], from: usize) {
+fn print_changes<P: Print>(rt: &P, met: &[u64; COUNTS], from: usize) -> io::Result<()> {
     print_rows(
+        rt,
         met,
         b"as made   dropped   doubled   swapped   renumberedodd, long ",
         from,
         8,
-    );
+    )
 }
 
 // Prints the tables of answers to claimed undo orders.
-fn print_lists(met: &[u64; COUNTS]) {
-    io::write_all(
-        1,
-        b"claimed undo orders of cuts' images by answer, 27 by the place beside it, the first pair, a later one or the end:\n",
-    );
-    io::write_all(
-        1,
-        b"list           0    21    22    23    26 first later   end\n",
-    );
-    print_changes(met, LISTS);
-    io::write_all(1, b"and of damaged ones:\n");
-    print_changes(met, LISTS + 48);
+fn print_lists<P: Print>(rt: &P, met: &[u64; COUNTS]) -> io::Result<()> {
+    println!(rt;
+        "claimed undo orders of cuts' images by answer, 27 by the place beside it, the first pair, a later one or the end:"
+    )?;
+    println!(rt; "list           0    21    22    23    26 first later   end")?;
+    print_changes(rt, met, LISTS)?;
+    println!(rt; "and of damaged ones:")?;
+    print_changes(rt, met, LISTS + 48)
 }
 
 // Prints the counts of LOGs.
-fn print_logs(met: &[u64; COUNTS]) {
-    io::write_all(1, b"\nLOGs refused by 8 that 5 would refuse too: ");
-    io::print_decimal(1, count(met, CROWDED));
-    io::write_all(
-        1,
-        b"\naccepted LOGs of a cell with an entry in the current region: ",
-    );
-    io::print_decimal(1, count(met, AGAIN));
-    io::write_all(1, b"\nof these after a STORE to the cell: ");
-    io::print_decimal(1, count(met, AGAIN + 1));
-    io::write_all(1, b"\nof these with a full log: ");
-    io::print_decimal(1, count(met, AGAIN + 2));
+fn print_logs<P: Print>(rt: &P, met: &[u64; COUNTS]) -> io::Result<()> {
+    print!(rt;
+        "\nLOGs refused by 8 that 5 would refuse too: {}",
+        count(met, CROWDED)
+    )?;
+    print!(rt;
+        "\naccepted LOGs of a cell with an entry in the current region: {}",
+        count(met, AGAIN)
+    )?;
+    print!(rt;
+        "\nof these after a STORE to the cell: {}",
+        count(met, AGAIN + 1)
+    )?;
+    print!(rt; "\nof these with a full log: {}", count(met, AGAIN + 2))
 }
 
 // Prints the counts of FENCEs and of evictions.
-fn print_kept(met: &[u64; COUNTS]) {
-    io::write_all(
-        1,
-        b"\naccepted FENCEs that carried nothing, lines, entries, and both:",
-    );
-    print_counts(met, FENCES, 4);
-    io::write_all(1, b"accepted EVICTCELLs that altered what the cell keeps: ");
-    io::print_decimal(1, count(met, UNKEPT));
-    io::write_all(1, b"\naccepted EVICTWORDS of 1, 2, 3 and 4 words:");
-    print_counts(met, WORDS, 4);
-    io::write_all(
-        1,
-        b"cuts with an entry torn over zeros, and over an older entry:",
-    );
-    print_counts(met, TORN, 2);
+fn print_kept<P: Print>(rt: &P, met: &[u64; COUNTS]) -> io::Result<()> {
+    print!(rt; "\naccepted FENCEs that carried nothing, lines, entries, and both:")?;
+    print_counts(rt, met, FENCES, 4)?;
+    print!(rt;
+        "accepted EVICTCELLs that altered what the cell keeps: {}",
+        count(met, UNKEPT)
+    )?;
+    print!(rt; "\naccepted EVICTWORDS of 1, 2, 3 and 4 words:")?;
+    print_counts(rt, met, WORDS, 4)?;
+    print!(rt; "cuts with an entry torn over zeros, and over an older entry:")?;
+    print_counts(rt, met, TORN, 2)
 }
 
 // Prints the counts of calls that log many cells.
-fn print_calls(met: &[u64; COUNTS]) {
-    io::write_all(
-        1,
-        b"calls that log many cells by answer:\n               0     2     3     5     7     8    25 other\n          ",
-    );
-    print_counts(met, CALLS, 8);
-    io::write_all(1, b"of these stopped after an accepted cell: ");
-    io::print_decimal(1, count(met, PARTLY));
-    io::write_all(
-        1,
-        b"\nby the length of the list, 0 to 18 cells:\n          ",
-    );
-    print_counts(met, LENGTHS, 19);
+fn print_calls<P: Print>(rt: &P, met: &[u64; COUNTS]) -> io::Result<()> {
+    print!(rt;
+        "calls that log many cells by answer:\n               0     2     3     5     7     8    25 other\n          "
+    )?;
+    print_counts(rt, met, CALLS, 8)?;
+    print!(rt;
+        "of these stopped after an accepted cell: {}",
+        count(met, PARTLY)
+    )?;
+    print!(rt; "\nby the length of the list, 0 to 18 cells:\n          ")?;
+    print_counts(rt, met, LENGTHS, 19)
 }
 
 // Prints how many pairs of a kind and an answer are missing in the table of steps, and how many should be.
-fn print_pairs(met: &[u64; COUNTS]) {
-    io::write_all(1, b"zeros among the ");
-    io::print_decimal(
-        1,
-        pairs(met, true, true) % 1000 + pairs(met, true, false) % 1000,
-    );
-    io::write_all(
-        1,
-        b" pairs that the documents let occur, 6 left out, which needs 1,000,000 entries: ",
-    );
-    io::print_decimal(1, pairs(met, true, false));
-    io::write_all(1, b"\nother pairs that were met: ");
-    io::print_decimal(1, pairs(met, false, true));
+fn print_pairs<P: Print>(rt: &P, met: &[u64; COUNTS]) -> io::Result<()> {
+    print!(rt;
+        "zeros among the {}",
+        pairs(met, true, true) % 1000 + pairs(met, true, false) % 1000
+    )?;
+    print!(rt;
+        " pairs that the documents let occur, 6 left out, which needs 1,000,000 entries: {}",
+        pairs(met, true, false)
+    )?;
+    print!(rt; "\nother pairs that were met: {}", pairs(met, false, true))
 }
 
 // Prints the tables and what is missing in them.
-pub(crate) fn print(met: &[u64; COUNTS]) {
-    io::write_all(1, b"steps of the generated listings by kind and answer:\n");
-    print_steps(met);
-    print_pairs(met);
-    print_logs(met);
-    print_kept(met);
-    print_calls(met);
-    io::write_all(
-        1,
-        b"images by recovery's answer, those of cuts and damaged ones:\n",
-    );
-    print_recovered(met);
-    print_lists(met);
+pub(crate) fn print<P: Print>(rt: &P, met: &[u64; COUNTS]) -> io::Result<()> {
+    println!(rt; "steps of the generated listings by kind and answer:")?;
+    print_steps(rt, met)?;
+    print_pairs(rt, met)?;
+    print_logs(rt, met)?;
+    print_kept(rt, met)?;
+    print_calls(rt, met)?;
+    println!(rt; "images by recovery's answer, those of cuts and damaged ones:")?;
+    print_recovered(rt, met)?;
+    print_lists(rt, met)
 }

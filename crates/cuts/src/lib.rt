@@ -1,4 +1,6 @@
 // All cuts of a listing: after each step, the start included, every choice of lines that the cache may have let go.
+#![tactic(auto)]
+
 ghost use Rattle.std.specs.Prelude.{◌≡◌};
 ghost use Rattle.machine.specs.Runs.{Reached};
 ghost use Rattle.buffer.specs.Buffers.{written, place_after};

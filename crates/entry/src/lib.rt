@@ -1,4 +1,6 @@
 // One entry of a log, whatever it says: its four words, and what is persisted of it where only some of them are.
+#![tactic(auto)]
+
 ghost use Rattle.std.specs.Prelude.{◌≡◌, ◌<◌, get_or};
 ghost use Rattle.entry.specs.Words.{slot_words, torn_of};
 
@@ -6,7 +8,7 @@ use ring::Lsn;
 use sizes::LSN_WORD;
 
 // What an entry says, beside its LSN.
-#[derive(Drop)]
+#[derive(Clone, Copy)]
 pub struct Payload {
     pub kind: u8,
     pub place: u8,
@@ -15,7 +17,7 @@ pub struct Payload {
 
 // An entry, as the cache has it and as persistent memory has it: the words kind, place, value and LSN of an image, each as wide as an entry
 // needs it. It sits in slot LSN mod 64; an untouched slot holds zeros.
-#[derive(Drop)]
+#[derive(Clone, Copy)]
 pub struct Entry {
     pub kind: u8,
     pub place: u8,

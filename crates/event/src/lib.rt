@@ -1,4 +1,6 @@
 // What an entry of an undo log means: a cell's content before a store, or a lock's count; and how it is written in an entry and read from one.
+#![tactic(auto)]
+
 ghost use Rattle.std.specs.Prelude.{◌≡◌};
 ghost use Rattle.entry.specs.Words.{said_by};
 ghost use Rattle.event.specs.Events.{payload_of, event_of, closes_of};
@@ -16,11 +18,11 @@ pub const ACQUIRE_ENTRY: u8 = 2;
 pub const RELEASE_ENTRY: u8 = 3;
 
 // How often a lock was released (document 01: lock count). Never added to or compared with an LSN.
-#[derive(Drop)]
+#[derive(Clone, Copy)]
 pub struct SyncCount(pub u64);
 
 // What an entry records: a cell's content before a store, or a lock's count.
-#[derive(Drop)]
+#[derive(Clone, Copy)]
 pub enum Event {
     Empty,
     Store { cell: u8, old: u64 },

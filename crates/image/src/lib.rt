@@ -1,5 +1,7 @@
 // An image as it is read: the tests of an image alone, 21 to 23, and its present entries. Stands on the stated behaviour of the log's
 // reader.
+#![tactic(auto)]
+
 ghost use Rattle.std.specs.Prelude.{◌≡◌, not, ◌||◌, [], ◌<◌, length, ltb};
 ghost use Rattle.sizes.specs.Sizes.{thread_count, lock_count};
 ghost use Rattle.answer.specs.Lists.{some_below};
@@ -15,7 +17,7 @@ use ring::Lsn;
 use sizes::{THREADS, words};
 
 // What an entry of an image says: document 01's kind, place and value.
-#[derive(Drop)]
+#[derive(Clone, Copy)]
 pub struct Entry {
     pub kind: u64,
     pub place: u64,
@@ -23,7 +25,7 @@ pub struct Entry {
 }
 
 // What the tests of an image give: the first refusal and no entries, or acceptance and how many present entries each thread has.
-#[derive(Drop)]
+#[derive(Clone, Copy)]
 pub struct Tested {
     pub answer: Answer,
     pub present: [usize; THREADS],

@@ -1,4 +1,6 @@
 // The kinds of step by document 01's and document 02's numbers, and the tests of a step's four numbers. Knows nothing of what a step does.
+#![tactic(auto)]
+
 ghost use Rattle.std.specs.Prelude.{◌≡◌, false, not, ◌||◌, ◌++◌, eqb};
 ghost use Rattle.sizes.specs.Sizes.{entry_words};
 ghost use Rattle.answer.specs.Refusals.{first_refusal};

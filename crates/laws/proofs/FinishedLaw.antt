@@ -15,8 +15,8 @@ use Rattle.sizes.specs.Sizes.{thread_count}
 use Rattle.tail.specs.Tail.{is_releasing}
 use Rattle.tail.specs.declared.Releasing.{Releasing}
 use Rattle.tail.specs.declared.Releasing.TheVariants.{Nothing, Lock}
-use Rattle.log.specs.Entries.{live_count}
-use Rattle.log.specs.declared.Log.{Log}
+use Rattle.thread_log.specs.Entries.{live_count}
+use Rattle.thread_log.specs.declared.Log.{Log}
 use Rattle.event.specs.Events.{sync_count}
 use Rattle.undo.specs.Entering.{live_event}
 use Rattle.undo.specs.Regions.{is_acquire, is_release, oldest_region, is_finished}

@@ -21,11 +21,11 @@ use Rattle.cache.proofs.CacheLaws as CacheLaws
 use Rattle.ring.specs.Ring.{slot_count, slot_of}
 use Rattle.tail.specs.Tail.{unfenced}
 use Rattle.entry.specs.Words.{zeros, slot_words}
-use Rattle.log.specs.Entries.{append_of, flush_log_of, fence_log_of, evict_words_of, drop_of}
+use Rattle.thread_log.specs.Entries.{append_of, flush_log_of, fence_log_of, evict_words_of, drop_of}
 use Rattle.reader.specs.Stretch.{image_words, heads_at, stretch_words, stretch_at}
 use Rattle.entry.specs.declared.Entry.{Entry}
-use Rattle.log.specs.declared.Log.{Log}
-use Rattle.log.proofs.SlotLaws.{slot-word, persist-word, run_elsewhere}
+use Rattle.thread_log.specs.declared.Log.{Log}
+use Rattle.thread_log.proofs.SlotLaws.{slot-word, persist-word, run_elsewhere}
 use Rattle.undo.specs.Entering.{end_release_of}
 use Rattle.kinds.specs.Kinds.{kind_of}
 use Rattle.kinds.specs.Kinds.{Kind, LOAD, LOG, STORE, ACQUIRE, LOGREL, RELEASE, FLUSH, FLUSHLOG, FENCE, PRUNE, EVICTLOG}

@@ -1,5 +1,5 @@
 -- The log's sum holds: each step changes the number of live entries by those that it appends and those that it frees.
-use Prim.Native.Nat.{ℕ, zero, suc, ◌+◌, ◌-◌, ◌<◌, ◌≤◌}
+use Prim.Native.Nat.{ℕ, zero, suc, ◌+◌, ◌<◌, ◌≤◌}
 use mathlib.Core.Path.{◌≡◌, refl, sym, ap, subst}
 use mathlib.Core.Bool.{false, cond, not, ◌&&◌, ◌||◌}
 use mathlib.Core.List.{List, [], ◌∷◌, map}
@@ -13,14 +13,14 @@ use Rattle.answer.proofs.Beside.{beside_a_refusal}
 use Rattle.answer.proofs.ListLaws.{cond_same}
 use Rattle.answer.proofs.RefusalLaws.{AllFail}
 use Rattle.cache.specs.Cache.{cached_at}
-use Rattle.log.specs.Entries.{live_count, flush_log_of, fence_log_of, evict_words_of, drop_of, append_of}
+use Rattle.thread_log.specs.Entries.{live_count, flush_log_of, fence_log_of, evict_words_of, drop_of, append_of}
 use Rattle.undo.specs.Entering.{enter_of, end_release_of}
 use Rattle.event.specs.declared.Event.TheVariants.{Store, Acquire, Release}
 use Rattle.undo.specs.Regions.{oldest_region, is_found}
 use Rattle.undo.specs.declared.Found.{Found}
 use Rattle.tail.specs.Tail.{flushed_tail, fenced_tail, released_tail}
 use Rattle.append.specs.Append.{grown_tail}
-use Rattle.log.specs.declared.Log.{Log}
+use Rattle.thread_log.specs.declared.Log.{Log}
 use Rattle.region.proofs.OldestLaws.{region-live}
 use Rattle.machine.specs.Effects.{load_effect, first_log_effect, store_effect, acquire_effect, log_release_effect, release_effect, flush_effect}
 use Rattle.machine.specs.Effects.{flush_log_effect, fence_effect, prune_effect, evict_log_effect, evict_cell_effect, effect}

@@ -8,7 +8,7 @@ use mathlib.Core.Bool.{Bool, true, false, false≢true}
 use mathlib.Core.List.{List}
 use mathlib.Core.Logic.{inl, inr, ⊎_elim, by_cases}
 use Rattle.sizes.specs.Sizes.{thread_count}
-use Rattle.log.specs.declared.Log.{Log}
+use Rattle.thread_log.specs.declared.Log.{Log}
 use Rattle.undo.specs.Regions.{logged_of, is_found}
 use Rattle.undo.specs.declared.Found.{Found}
 use Rattle.undo.specs.declared.Found.TheVariants.{Nowhere, At}

@@ -15,8 +15,8 @@ use Rattle.cache.specs.Cache.{line_count, is_pending, pending_count}
 use Rattle.cache.proofs.CacheLaws as CacheLaws
 use Rattle.tail.specs.Tail.{unfenced, fenced_tail}
 use Rattle.ring.specs.Ring.{lsn}
-use Rattle.log.specs.Entries.{persist_from, fence_log_of}
-use Rattle.log.specs.declared.Log.{Log}
+use Rattle.thread_log.specs.Entries.{persist_from, fence_log_of}
+use Rattle.thread_log.specs.declared.Log.{Log}
 use Rattle.kinds.specs.Kinds.{FENCE, kind_of, input_tests}
 use Rattle.machine.specs.Effects.{effect, fence_effect}
 use Rattle.machine.specs.Holds.{no_log, log_of}

@@ -10,7 +10,7 @@ use Rattle.cache.specs.declared.Cache.{Cache}
 use Rattle.ring.specs.Ring.{slot_of}
 use Rattle.tail.specs.Tail.{unfenced}
 use Rattle.reader.specs.Stretch.{image_words, heads_at, stretch_at}
-use Rattle.log.specs.declared.Log.{Log}
+use Rattle.thread_log.specs.declared.Log.{Log}
 use Rattle.kinds.specs.Kinds.{Kind, LOAD, LOG, STORE, ACQUIRE, LOGREL, RELEASE, FLUSH, FLUSHLOG, FENCE, PRUNE, EVICTLOG}
 use Rattle.kinds.specs.Kinds.{EVICTCELL, EVICTWORDS, kind_of}
 use Rattle.machine.specs.Holds.{log_of}

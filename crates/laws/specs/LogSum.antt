@@ -2,7 +2,7 @@
 -- steps that appended".
 use Rattle.std.specs.Prelude.{ℕ, ◌+◌, ◌≡◌, Bool, cond, not, ◌&&◌, ◌||◌, List, [], ◌∷◌, map, eqb}
 use Rattle.answer.specs.Answer.{is_accepted, value_of}
-use Rattle.log.specs.Entries.{live_count}
+use Rattle.thread_log.specs.Entries.{live_count}
 use Rattle.undo.specs.Regions.{is_logged}
 use Rattle.machine.specs.Holds.{log_of}
 use Rattle.machine.specs.Runs.{Step, step_with}

@@ -7,7 +7,7 @@ use borrow.Author.Tests.{lt-ltb, le-ltb}
 use denote.Enum.Declared.{tag_of}
 use types.Run.{OneOf, miss}
 use lib.ListN.{length, take, drop}
-use Rattle.bytes.specs.Bytes.{index_of}
+use Rattle.scan.specs.Find.{index_of}
 use Rattle.number.specs.Decimal.{number_in}
 use Rattle.number.specs.declared.Field.{Field}
 use Rattle.number.specs.declared.Field.TheVariants.{Number, Nothing}

@@ -1,24 +1,24 @@
 -- Laws of texts: a search, a rest, and whether a text begins with a key.
-use Prim.Native.Nat.{ℕ, ◌+◌, ◌-◌, ◌≤◌, ◌<◌}
-use mathlib.Core.Path.{◌≡◌, ap}
+use Prim.Native.Nat.{ℕ, ◌-◌, ◌≤◌, ◌<◌}
+use mathlib.Core.Path.{◌≡◌, refl, ap}
 use mathlib.Core.Bool.{true, false}
-use mathlib.Core.List.{List}
-use native.Mathlib.Nat.{zero-add}
+use mathlib.Core.List.{List, [], ◌∷◌}
+use borrow.Author.Tests.{eq-eqb}
 use native.Mathlib.Omega.{arith}
 use lib.ListN.{length, take, drop, length-take, length-drop}
-use lib.Seq.{take-length, take_all}
-use Rattle.bytes.specs.Bytes.{slice, index_of}
+use lib.Seq.{take_all}
 use Rattle.names.specs.Text.{same_text}
 use Rattle.names.proofs.TextLaws.{same_eq, same_lengths}
-
--- a search from the front to the end is one of the whole text
-pub find-whole : (byte : ℕ) (text : List ℕ) → 0 + index_of byte (slice 0 (length text) text) ≡ index_of byte text
-unfolding slice
-find-whole byte text = rw (take-length text, zero-add)
 
 -- a part from a place up to the end is the rest of the text
 pub part_rest : (n : ℕ) (text : List ℕ) → take (length text - n) (drop n text) ≡ drop n text
 part_rest n text = take_all (length text - n) (drop n text) (omega (arith, length-drop n text))
+
+-- a text is the same as itself
+pub same_refl : (text : List ℕ) → same_text text text ≡ true
+unfolding same_text
+same_refl [] = refl
+same_refl (byte ∷ text) = rw (eq-eqb byte byte refl) (same_refl text)
 
 -- a text that is shorter than a key does not begin with it
 pub too_short : (text key : List ℕ) → length text < length key → same_text (take (length key) text) key ≡ false

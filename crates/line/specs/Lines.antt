@@ -1,7 +1,7 @@
 -- What a line of the input says: a step, "the step's name in capitals, then thread, place and value in decimal below 2^64 without leading
 -- zeros, one space between", or, written likewise, an entry of a claimed undo order.
 use Rattle.std.specs.Prelude.{ℕ, ◌+◌, cond, List, [], ◌∷◌, ◌++◌, length, take, drop, eqb, ltb}
-use Rattle.bytes.specs.Bytes.{index_of}
+use Rattle.scan.specs.Find.{index_of}
 use Rattle.number.specs.Decimal.{number_in}
 use Rattle.number.specs.declared.Field.{Field}
 use Rattle.number.specs.declared.Field.TheVariants.{Number, Nothing}

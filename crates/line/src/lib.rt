@@ -1,6 +1,8 @@
 // What one line of a listing says.
-ghost use Rattle.std.specs.Prelude.{◌≡◌, ◌+◌, ◌≤◌, length, take};
-ghost use Rattle.bytes.specs.Bytes.{index_of};
+#![tactic(auto)]
+
+ghost use Rattle.std.specs.Prelude.{◌≡◌, ◌+◌, length, take};
+ghost use Rattle.scan.specs.Find.{index_of};
 ghost use Rattle.number.specs.Decimal.{number_in};
 ghost use Rattle.names.specs.Text.{ascii, same_text};
 ghost use Rattle.names.specs.Names.{kind_named};
@@ -9,9 +11,10 @@ ghost use Rattle.line.specs.Lines.{step_in, undo_in, line_of, first_line};
 
 use names::{kind_named, same};
 use number::{Field, number_in};
+use scan::find;
 
 // A line says a step, an entry of a claimed undo order by its thread and its LSN, which the text calls rank, or it can't be read.
-#[derive(Drop)]
+#[derive(Clone, Copy)]
 pub enum Line {
     Step {
         kind: u64,
@@ -24,14 +27,6 @@ pub enum Line {
         rank: u64,
     },
     Unreadable,
-}
-
-// The first place of the byte in the text, or the length where there is none.
-fn find(text: &[u8], byte: u8) -> usize
-    ensures value { result ≡ index_of byte text.now }
-    ensures upper_bound { result ≤ length text.now }
-{
-    bytes::scan::find(text, 0, text.len(), byte)
 }
 
 // What stands before the text's first space.
@@ -86,6 +81,7 @@ fn number_field(text: &[u8], key: &[u8]) -> Field
 }
 
 // The step of four fields.
+#[tactic(auto, unfolding(crate::specs::Lines::step_line))]
 fn step_of(kind: Field, thread: Field, place: Field, value: Field) -> Line
     ensures { result ≡ step_line kind thread place value }
 {
@@ -110,6 +106,7 @@ fn step_of(kind: Field, thread: Field, place: Field, value: Field) -> Line
 }
 
 // The entry of a claimed undo order, of two fields.
+#[tactic(auto, unfolding(crate::specs::Lines::undo_line))]
 fn undo_of(thread: Field, rank: Field) -> Line
     ensures { result ≡ undo_line thread rank }
 {

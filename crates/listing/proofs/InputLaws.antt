@@ -10,7 +10,7 @@ use native.Mathlib.Omega.{arith}
 use lib.ListN.{length, take, drop, drop_of_length-le, length-append, length-take, length-drop}
 use lib.Seq.{drop-drop}
 use lib.Dec.{eqb}
-use Rattle.bytes.specs.Bytes.{index_of, index_after}
+use Rattle.scan.specs.Find.{index_of, index_after}
 use Rattle.number.specs.Decimal.{number_in}
 use Rattle.number.specs.declared.Field.{Field}
 use Rattle.number.specs.declared.Field.TheVariants.{Number, Nothing}
@@ -27,7 +27,7 @@ use Rattle.line.proofs.LineLaws.{first_ended, first-unended}
 -- a line that is ended, of which these bytes are passed
 lines-ended : (line input : List ℕ) → index_of newline input < length input
     → lines_from line input ≡ line_of (line ++ take (index_of newline input) input) ∷ lines_from [] (drop (index_of newline input + 1) input)
-unfolding lines_from index_of index_after
+unfolding lines_from index_of
 lines-ended line [] ended = absurd (omega arith)
 lines-ended line (byte ∷ input) ended = by_byte (eqb byte newline) ended (lines-ended (line ++ (byte ∷ [])) input)
   where
@@ -45,7 +45,7 @@ lines-ended line (byte ∷ input) ended = by_byte (eqb byte newline) ended (line
 
 -- what has no newline is one line that can't be read, or none where it is empty
 lines-unended : (line input : List ℕ) → length input ≤ index_of newline input → lines_from line input ≡ unended (line ++ input)
-unfolding lines_from index_of index_after
+unfolding lines_from index_of
 lines-unended line [] past = rw (append-nil line)
 lines-unended line (byte ∷ input) past = by_byte (eqb byte newline) past (lines-unended (line ++ (byte ∷ [])) input)
   where

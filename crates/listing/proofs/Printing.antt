@@ -1,7 +1,7 @@
 -- A loop over the lines of an input that prints a piece for each step, whatever the piece is: how long the pieces are, and that a part is
 -- written and the lines that are left print the other part.
 use Prim.Native.Nat.{ℕ, suc, ◌+◌, ◌-◌, ◌*◌, ◌≤◌, ◌<◌}
-use mathlib.Core.Path.{◌≡◌, sym, ◌∙◌, ap, ap₂}
+use mathlib.Core.Path.{◌≡◌, refl, sym, ◌∙◌, ap, ap₂}
 use mathlib.Core.Bool.{cond}
 use mathlib.Core.Logic.{by_cases}
 use mathlib.Core.List.{List, [], ◌∷◌, ◌++◌, append-nil, append_assoc}
@@ -10,14 +10,12 @@ use native.Mathlib.Nat.{mul-suc}
 use native.Mathlib.Numerals.{add-one}
 use native.Mathlib.Omega.{arith}
 use borrow.Author.Tests.{le-leb, lt-leb, lt-ltb, le-ltb}
-use denote.Enum.Declared.{tag_of}
-use types.Run.{OneOf, miss}
 use lib.ListN.{length, drop, replicate, length-append}
 use lib.Dec.{leb, ltb}
 use Rattle.answer.specs.Answer.{number_of, value_of}
 use Rattle.answer.specs.declared.Answer.{Answer}
 use Rattle.answer.specs.declared.Answer.TheVariants.{Unreadable as UnreadableAnswer}
-use Rattle.bytes.specs.Bytes.{index_of}
+use Rattle.scan.specs.Find.{index_of}
 use Rattle.cache.specs.Cache.{cell_count}
 use Rattle.machine.specs.Runs.{Reached}
 use Rattle.machine.specs.declared.Machine.{Machine}
@@ -29,7 +27,6 @@ use Rattle.names.specs.Text.{ascii}
 use Rattle.line.specs.Lines.{newline, after, first_line, lines_of}
 use Rattle.line.specs.declared.Line.{Line}
 use Rattle.line.specs.declared.Line.TheVariants.{Step, Undo, Unreadable}
-use Rattle.line.specs.contracts.Line as declared
 use Rattle.buffer.specs.Buffers.{written, place_after}
 use Rattle.print.specs.Printed.{result_text}
 use Rattle.buffer.proofs.BufferLaws.{Wrote, wrote_first, wrote_long, wrote_more}
@@ -169,13 +166,13 @@ printing_start first short fits room wrote is = record {
   counted = omega arith;
 }
 
--- a line whose tag is not that of a step prints the answer 20
+-- a line that says no step prints the answer 20
 no_step_lem : {texts : Machine → ℕ → List Line → List ℕ} {piece : ℕ → Stepped → List ℕ} → LineByLine texts piece
-    → (machine : Machine) (number : ℕ) (line : Line) (lines : List Line) → OneOf (1 ∷ 2 ∷ []) (tag_of declared.the_type line)
+    → (machine : Machine) (number : ℕ) (line : Line) (lines : List Line) → ((kind thread place value : ℕ) → line ≡ Step kind thread place value → ⊥)
     → texts machine number (line ∷ lines) ≡ result_text number UnreadableAnswer
-no_step_lem by-line machine number (Step kind thread place value) lines key = absurd (miss (1 ∷ 2 ∷ []) 0 tt key)
-no_step_lem by-line machine number (Undo thread rank) lines key = by-line.on-undo machine number thread rank lines
-no_step_lem by-line machine number Unreadable lines key = by-line.on-unreadable machine number lines
+no_step_lem by-line machine number (Step kind thread place value) lines no_step = absurd (no_step kind thread place value refl)
+no_step_lem by-line machine number (Undo thread rank) lines no_step = by-line.on-undo machine number thread rank lines
+no_step_lem by-line machine number Unreadable lines no_step = by-line.on-unreadable machine number lines
 
 module _ {texts : Machine → ℕ → List Line → List ℕ} {text input old output : List ℕ} {machine : Machine} {number from place : ℕ}
     (so_far : Printing texts text input old output machine number from place) where
@@ -214,11 +211,11 @@ module _ {texts : Machine → ℕ → List Line → List ℕ} {text input old ou
     first = ap (texts machine number) (lines_at input from more read)
 
     -- a line that says no step prints the answer 20 as the last piece
-    pub printing-unreadable : {piece : ℕ → Stepped → List ℕ} → LineByLine texts piece → OneOf (1 ∷ 2 ∷ []) (tag_of declared.the_type line)
+    pub printing-unreadable : {piece : ℕ → Stepped → List ℕ} → LineByLine texts piece → ((kind thread place value : ℕ) → line ≡ Step kind thread place value → ⊥)
         → {place' : ℕ} {output' : List ℕ} → Put output place (result_text number UnreadableAnswer) place' output'
         → Stands input text old place' output'
-    printing-unreadable by-line key put =
-        printing-last (result_text number UnreadableAnswer) (first ∙ no_step_lem by-line machine number line _ key) put
+    printing-unreadable by-line no_step put =
+        printing-last (result_text number UnreadableAnswer) (first ∙ no_step_lem by-line machine number line _ no_step) put
 
     -- a line that says a step prints its piece
     module _ {kind thread cell value : ℕ} (says : line ≡ Step kind thread cell value) where

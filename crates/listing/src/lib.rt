@@ -1,4 +1,6 @@
 // The listing program's whole transcript, as bytes from bytes.
+#![tactic(auto)]
+
 ghost use Rattle.std.specs.Prelude.{◌≡◌, ◌+◌, ◌≤◌, length};
 ghost use Rattle.buffer.specs.Buffers.{written};
 ghost use Rattle.print.specs.Printed.{cells_text};

@@ -1,14 +1,21 @@
 // Marks each listing that an argument names, NAME.listing, and compares what it prints, byte by byte, with the stored NAME.transcript.
 // Then prints how often each name of a step met each answer, counted from the listings and the stored transcripts. These come from
 // elsewhere (data/README.md), and never from what is printed here.
-ghost use Rattle.std.specs.Prelude.{◌≤◌, ◌<◌, length};
-ghost use Rattle.io.specs.Counts.{IsPrefixLen};
+#![tactic(auto)]
 
+ghost use Rattle.std.specs.Prelude.{◌≤◌, ◌<◌, length};
+
+use input::read_full;
 use line::Line;
 use listing::{MOST_INPUT, TRANSCRIPT_ROOM};
+use scan::find;
+use std::env::{Env, FillError};
+use std::io::Write;
+use std::rt::Files;
+use std::{fs, io, str};
 
 // What became of a listing.
-#[derive(Drop)]
+#[derive(Clone, Copy)]
 enum Verdict {
     Agrees,
     Differs,
@@ -26,21 +33,13 @@ fn first(buffer: &[u8], count: usize) -> &[u8] {
     &buffer[..count]
 }
 
-// Opens the file of this name and ending; answers its descriptor, or a number below 0.
-fn open(name: &[u8], ending: &[u8]) -> i32 {
+// Opens the file of this name and ending, if there is one.
+fn open<R: Files>(rt: &R, name: &[u8], ending: &[u8]) -> Option<R::File> {
     let mut path = [0u8; 80];
     let end = buffer::write(&mut path, 0, name);
     let end = buffer::write(&mut path, end, ending);
-    os::open_read(first(&path, end))
-}
-
-// Reads a file into the buffer and closes it; answers how many bytes were read.
-fn read(file: i32, buffer: &mut [u8]) -> usize
-    ensures { IsPrefixLen result buffer.new }
-{
-    let count = io::read_full(file, buffer);
-    libc::close(file);
-    count
+    let path = str::from_utf8(first(&path, end)).ok()?;
+    fs::open(rt, path).ok()
 }
 
 // The two texts are the same.
@@ -77,7 +76,7 @@ fn digit_at(text: &[u8], place: usize) -> usize
 
 // The answer in a transcript's first line: it stands after a space and `answer=`, and has one digit or two.
 fn answer_in(transcript: &[u8]) -> usize {
-    let space = bytes::scan::find(transcript, 0, transcript.len(), b' ');
+    let space = find(transcript, b' ');
     if transcript.len() - space < 10 {
         return 20;
     }
@@ -136,7 +135,7 @@ fn after_line(text: &[u8], place: usize) -> usize
     ensures lower_bound { place < result }
     ensures upper_bound { result ≤ length text.now }
 {
-    let end = bytes::scan::find(text, place, text.len(), b'\n');
+    let end = place + find(&text[place..], b'\n');
     if end < text.len() {
         return end + 1;
     }
@@ -160,28 +159,25 @@ fn count_lines(listing: &[u8], transcript: &[u8], counts: &mut Table) {
 }
 
 // Marks the listing of this name, compares, and counts its lines.
-fn judge(name: &[u8], counts: &mut Table) -> Verdict {
-    let listing = open(name, b".listing");
-    if listing < 0 {
-        return Verdict::Missing;
-    }
-    let transcript = open(name, b".transcript");
-    if transcript < 0 {
-        libc::close(listing);
-        return Verdict::Missing;
-    }
+fn judge<R: Files>(rt: &R, name: &[u8], counts: &mut Table) -> io::Result<Verdict> {
+    let Some(mut listing) = open(rt, name, b".listing") else {
+        return Ok(Verdict::Missing);
+    };
+    let Some(mut transcript) = open(rt, name, b".transcript") else {
+        return Ok(Verdict::Missing);
+    };
     // one byte more than a listing and a transcript may have, so that a longer one shows
     let mut input = [0u8; MOST_INPUT + 1];
     let mut stored = [0u8; 163841];
     let mut output = [0u8; TRANSCRIPT_ROOM];
-    let given = read(listing, &mut input);
-    let wanted = read(transcript, &mut stored);
+    let given = read_full(&mut listing, &mut input)?;
+    let wanted = read_full(&mut transcript, &mut stored)?;
     count_lines(&input[..given], &stored[..wanted], counts);
     let end = listing::transcript(&input[..given], &mut output);
     if same(first(&output, end), &stored[..wanted]) {
-        return Verdict::Agrees;
+        return Ok(Verdict::Agrees);
     }
-    Verdict::Differs
+    Ok(Verdict::Differs)
 }
 
 // The verdict is that the two agree.
@@ -297,27 +293,28 @@ fn write_sums(report: &mut [u8], place: usize, passed: u64, failed: u64) -> usiz
 }
 
 // Marks the listings that are named, then prints the verdicts, the table and the sums in one write.
-fn main() {
+fn main(rt: HostRuntime) -> io::Result<()> {
     let mut report = [0u8; 8192];
     let mut counts = [0u64; 315];
     let mut end = 0;
     let mut passed: u64 = 0;
     let mut failed: u64 = 0;
-    let names = os::arg_count();
-    let mut i = 1;
-    while i < names {
+    for i in 1..usize::MAX {
         let mut name = [0u8; 64];
-        let length = os::arg(i, &mut name);
-        let verdict = judge(&name[..length], &mut counts);
+        let length = match rt.arg(i, &mut name) {
+            Ok(length) => length,
+            Err(FillError::TooLong) => 0,
+            Err(FillError::NotPresent) => break,
+        };
+        let verdict = judge(&rt, &name[..length], &mut counts)?;
         end = write_verdict(&mut report, end, &name[..length], verdict);
         if agrees(verdict) {
             passed += 1;
         } else {
             failed += 1;
         }
-        i += 1;
     }
     end = write_table(&mut report, end, &counts);
     end = write_sums(&mut report, end, passed, failed);
-    io::write_all(1, first(&report, end));
+    io::writer(&rt).write_all(first(&report, end))
 }

@@ -4,9 +4,9 @@ use Rattle.std.specs.Prelude.{ℕ, ◌-◌, not, List, [], ◌∷◌, ◌++◌}
 use Rattle.answer.specs.Refusals.{Test, ◌⇒◌, unless}
 use Rattle.answer.specs.declared.Answer.TheVariants.{Accepted, Releasing, EntryNotDurable, LockHeld, LockNotHeld, NotReleasing}
 use Rattle.tail.specs.Tail.{is_releasing_lock}
-use Rattle.log.specs.Entries.{append_tests}
-use Rattle.log.specs.declared.Changed.{Changed}
-use Rattle.log.specs.declared.Log.{Log}
+use Rattle.thread_log.specs.Entries.{append_tests}
+use Rattle.thread_log.specs.declared.Changed.{Changed}
+use Rattle.thread_log.specs.declared.Log.{Log}
 use Rattle.undo.specs.Entering.{enter_of, end_release_of}
 use Rattle.undo.specs.Regions.{is_closing, is_undurable_up_to}
 use Rattle.event.specs.declared.Event.TheVariants.{Acquire, Release}

@@ -1,4 +1,6 @@
 // Locks, and ACQUIRE, LOGREL and RELEASE on parts of the machine. Every function takes any parts.
+#![tactic(auto)]
+
 ghost use Rattle.std.specs.Prelude.{◌≡◌, ◌-◌, ltb};
 ghost use Rattle.answer.specs.Refusals.{first_refusal};
 ghost use Rattle.locks.specs.Locks.{is_held, is_held_by, taken_by, one_more, free_of, count_of};
@@ -7,22 +9,22 @@ ghost use Rattle.locks.specs.LockSteps.{acquire_tests_on, acquire_on, log_releas
 use answer::Answer;
 use clocks::Clock;
 use event::{Event, SyncCount};
-use log::{Changed, Log};
 use tail::Tail;
+use thread_log::{Changed, Log};
 use undo::enter;
 
 // The largest lock count that there is room for.
 const LARGEST: u64 = 18446744073709551615;
 
 // Who holds a lock.
-#[derive(Drop)]
+#[derive(Clone, Copy)]
 pub enum Holder {
     Nobody,
     Thread(u8),
 }
 
 // A lock: its holder, how often it was released, and how many pruned regions end in a RELEASE of it.
-#[derive(Drop)]
+#[derive(Clone, Copy)]
 pub struct Lock {
     pub holder: Holder,
     pub count: SyncCount,
@@ -30,7 +32,7 @@ pub struct Lock {
 }
 
 // The answer of an ACQUIRE or a RELEASE, beside the thread's log, the lock and the thread's clock after it.
-#[derive(Drop)]
+#[derive(Clone, Copy)]
 pub struct Handed {
     pub answer: Answer,
     pub log: Log,

@@ -9,13 +9,13 @@ use Rattle.answer.specs.Lists.{some_below}
 use Rattle.answer.specs.Refusals.{guarded}
 use Rattle.answer.proofs.RefusalLaws.{AllFail, guarded-asked}
 use Rattle.undo.specs.Entering.{live_event}
-use Rattle.log.specs.Entries.{append_tests, is_live_slot, evict_slot_tests}
+use Rattle.thread_log.specs.Entries.{append_tests, is_live_slot, evict_slot_tests}
 use Rattle.undo.specs.Regions.{logged_of, oldest_region, is_finished, is_found, is_undurable_found}
 use Rattle.ring.specs.Ring.{lsn}
 use Rattle.tail.specs.Tail.{is_releasing, is_releasing_lock}
 use Rattle.undo.specs.declared.Found.{Found}
 use Rattle.undo.specs.declared.Found.TheVariants.{Nowhere, At}
-use Rattle.log.specs.declared.Log.{Log}
+use Rattle.thread_log.specs.declared.Log.{Log}
 use Rattle.tail.specs.declared.Releasing.{Releasing}
 use Rattle.tail.specs.declared.Releasing.TheVariants.{Nothing, Lock}
 use Rattle.machine.specs.Clocks.{load_races, log_races}

@@ -11,9 +11,9 @@ use Rattle.sizes.specs.Sizes.{thread_count, lock_count}
 use Rattle.answer.proofs.ListLaws.{get_d-blank}
 use Rattle.cache.specs.Cache.{cell_count, cache_of}
 use Rattle.tail.specs.declared.Releasing.TheVariants.{Nothing}
-use Rattle.log.specs.Entries.{fresh_log}
-use Rattle.log.specs.declared.Log.{Log}
-use Rattle.log.proofs.Idle.{Idle, fresh_idle}
+use Rattle.thread_log.specs.Entries.{fresh_log}
+use Rattle.thread_log.specs.declared.Log.{Log}
+use Rattle.thread_log.proofs.Idle.{Idle, fresh_idle}
 use Rattle.machine.specs.Holds.{no_log, lock_of, fresh_machine, start_of}
 use Rattle.locks.specs.Locks.{no_lock}
 use Rattle.clocks.specs.Clocks.{no_clock, start_clocks}

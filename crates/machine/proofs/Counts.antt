@@ -14,16 +14,16 @@ use Rattle.answer.proofs.ListCases.{set_cases}
 use Rattle.answer.proofs.RefusalLaws.{AllFail}
 use Rattle.undo.specs.Entering.{live_event, enter_of, end_release_of}
 use Rattle.cache.specs.Cache.{cached_at}
-use Rattle.log.specs.Entries.{append_tests, flush_log_of, fence_log_of, evict_words_of, drop_of, append_of}
+use Rattle.thread_log.specs.Entries.{append_tests, flush_log_of, fence_log_of, evict_words_of, drop_of, append_of}
 use Rattle.undo.specs.Regions.{oldest_region, is_finished}
 use Rattle.tail.specs.Tail.{is_releasing, flushed_tail, fenced_tail, released_tail}
 use Rattle.append.specs.Append.{grown_tail}
 use Rattle.event.specs.declared.Event.{Event}
 use Rattle.event.specs.declared.Event.TheVariants.{Empty, Store, Acquire, Release}
-use Rattle.log.specs.declared.Log.{Log}
+use Rattle.thread_log.specs.declared.Log.{Log}
 use native.Mathlib.Nat.{suc-mul}
 use Rattle.tail.specs.declared.Releasing.TheVariants.{Lock}
-use Rattle.log.proofs.LogInvariant.{append_room}
+use Rattle.thread_log.proofs.LogInvariant.{append_room}
 use Rattle.region.proofs.OldestLaws.{region-live, finished_some}
 use Rattle.clocks.specs.Clocks.{clock_at, join_of, raised_of, no_clock, start_clocks}
 use Rattle.accesses.specs.Accesses.{loaded_of, logged_cell_of}

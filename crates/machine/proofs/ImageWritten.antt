@@ -14,10 +14,10 @@ use Rattle.cache.proofs.CacheLaws.{persisted_into-long}
 use Rattle.ring.specs.Ring.{slot_count}
 use Rattle.reader.specs.Stretch.{image_words, heads_at, stretch_words, stretch_at, stretch_of}
 use Rattle.entry.specs.Words.{words_of}
-use Rattle.log.specs.declared.Log.{Log}
+use Rattle.thread_log.specs.declared.Log.{Log}
 use Rattle.reader.proofs.StretchLaws.{Reads}
-use Rattle.log.proofs.SlotLaws.{length_words}
-use Rattle.log.proofs.ImageLaws.{logs-read}
+use Rattle.thread_log.proofs.SlotLaws.{length_words}
+use Rattle.thread_log.proofs.ImageLaws.{logs-read}
 use Rattle.machine.specs.Holds.{no_log, log_of}
 use Rattle.machine.specs.Image.{image_of}
 use Rattle.writer.specs.Written.{written_of, log_into}

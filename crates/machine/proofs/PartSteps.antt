@@ -13,9 +13,9 @@ use Rattle.answer.specs.declared.Answer.TheVariants.{Accepted}
 use Rattle.answer.proofs.RefusalLaws.{AllFail, not-zero, unless-both}
 use Rattle.cache.specs.Cache.{cached_at}
 use Rattle.sizes.specs.Sizes.{entry_words}
-use Rattle.log.specs.Entries.{evict_slot_tests, evict_words_of, evicted_words_of, drop_of}
-use Rattle.log.specs.declared.Changed.{Changed}
-use Rattle.log.specs.declared.Log.{Log}
+use Rattle.thread_log.specs.Entries.{evict_slot_tests, evict_words_of, evicted_words_of, drop_of}
+use Rattle.thread_log.specs.declared.Changed.{Changed}
+use Rattle.thread_log.specs.declared.Log.{Log}
 use Rattle.undo.specs.Entering.{live_event, enter_of, end_release_of}
 use Rattle.event.specs.Events.{place_of}
 use Rattle.undo.specs.Regions.{oldest_region, logged_of, store_tests_on}

@@ -7,11 +7,11 @@ use Rattle.sizes.specs.Sizes.{thread_count, lock_count}
 use Rattle.answer.proofs.RefusalLaws.{AllFail}
 use Rattle.cache.specs.declared.Cache.{Cache}
 use Rattle.undo.specs.Entering.{live_event}
-use Rattle.log.specs.Entries.{drop_of}
+use Rattle.thread_log.specs.Entries.{drop_of}
 use Rattle.undo.specs.Regions.{oldest_region}
 use Rattle.event.specs.declared.Event.{Event}
 use Rattle.event.specs.declared.Event.TheVariants.{Empty, Store, Acquire, Release}
-use Rattle.log.specs.declared.Log.{Log}
+use Rattle.thread_log.specs.declared.Log.{Log}
 use Rattle.accesses.specs.Accesses.{loaded_of, logged_cell_of}
 use Rattle.machine.specs.Effects.{load_effect, first_log_effect, store_effect, acquire_effect, log_release_effect, release_effect}
 use Rattle.machine.specs.Effects.{flush_effect, flush_log_effect, fence_effect, prune_effect, count_pruned}

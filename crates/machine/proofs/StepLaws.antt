@@ -11,7 +11,7 @@ use Rattle.answer.specs.declared.Answer.TheVariants.{NoSuchKind}
 use Rattle.answer.proofs.RefusalLaws.{AllFail, AllRefuse, all_refuse_append, unless-cases}
 use Rattle.kinds.proofs.Inputs.{input_refuses}
 use Rattle.append.specs.Append.{room_tests}
-use Rattle.log.specs.Entries.{evict_slot_tests}
+use Rattle.thread_log.specs.Entries.{evict_slot_tests}
 use Rattle.accessing.proofs.LogLaws.{log-refuses}
 use Rattle.machine.specs.Effects.{load_effect, first_log_effect, store_effect, acquire_effect, log_release_effect, release_effect}
 use Rattle.machine.specs.Effects.{flush_effect, flush_log_effect, fence_effect, prune_effect, evict_log_effect, evict_cell_effect}

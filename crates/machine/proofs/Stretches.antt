@@ -5,12 +5,12 @@ use mathlib.Core.List.{List, map}
 use lib.ListN.{length, get_or, replicate, get_or-replicate, length-map, get_or-map}
 use lib.Seq.{map-set_same}
 use Rattle.sizes.specs.Sizes.{thread_count, entry_words}
-use Rattle.log.specs.Entries.{fresh_log, flush_log_of, fence_log_of, evict_words_of, drop_of, append_of}
+use Rattle.thread_log.specs.Entries.{fresh_log, flush_log_of, fence_log_of, evict_words_of, drop_of, append_of}
 use Rattle.undo.specs.Entering.{end_release_of}
 use Rattle.undo.specs.Regions.{oldest_region}
 use Rattle.ring.specs.Ring.{slot_count}
-use Rattle.log.specs.declared.Log.{Log}
-use Rattle.log.proofs.SlotLaws.{length_persist_words, length_persist_from}
+use Rattle.thread_log.specs.declared.Log.{Log}
+use Rattle.thread_log.proofs.SlotLaws.{length_persist_words, length_persist_from}
 use Rattle.machine.specs.Effects.{load_effect, first_log_effect, store_effect, acquire_effect, log_release_effect, release_effect}
 use Rattle.machine.specs.Effects.{flush_effect, flush_log_effect, fence_effect, prune_effect, evict_log_effect, effect}
 use Rattle.machine.specs.Effects.{evict_cell_effect, evict_words_effect}

@@ -4,7 +4,7 @@ use Rattle.answer.specs.declared.Answer.TheVariants.{Accepted}
 use Rattle.cache.specs.Cache.{cached_at, pending_count, store_of, flush_of, fence_of, evict_cell_of}
 use Rattle.undo.specs.Entering.{live_event, enter_of, end_release_of}
 use Rattle.tail.specs.Tail.{unfenced}
-use Rattle.log.specs.Entries.{flush_log_of, fence_log_of, evict_slot_of, evict_words_of, drop_of}
+use Rattle.thread_log.specs.Entries.{flush_log_of, fence_log_of, evict_slot_of, evict_words_of, drop_of}
 use Rattle.undo.specs.Regions.{oldest_region, logged_of}
 use Rattle.event.specs.declared.Event.{Event}
 use Rattle.event.specs.declared.Event.TheVariants.{Store, Acquire, Release}

@@ -5,8 +5,8 @@ use Rattle.answer.specs.declared.Answer.TheVariants.{Accepted, WrongLength}
 use Rattle.cache.specs.Cache.{cell_count, cache_of}
 use Rattle.cache.specs.declared.Cache.{Cache}
 use Rattle.ring.specs.Ring.{lsn}
-use Rattle.log.specs.Entries.{fresh_log}
-use Rattle.log.specs.declared.Log.{Log}
+use Rattle.thread_log.specs.Entries.{fresh_log}
+use Rattle.thread_log.specs.declared.Log.{Log}
 use Rattle.tail.specs.declared.Releasing.TheVariants.{Nothing}
 use Rattle.accesses.specs.declared.Accesses.{Accesses}
 use Rattle.clocks.specs.declared.Clock.{Clock}

@@ -1,7 +1,7 @@
 -- "Refused because of the state": for each kind of step, its tests from left to right, asked of the machine's parts.
 use Rattle.std.specs.Prelude.{ℕ, List, [], ◌++◌}
 use Rattle.answer.specs.Refusals.{Test}
-use Rattle.log.specs.Entries.{append_tests, evict_slot_tests}
+use Rattle.thread_log.specs.Entries.{append_tests, evict_slot_tests}
 use Rattle.undo.specs.Regions.{store_tests_on}
 use Rattle.kinds.specs.Kinds.{Kind, LOAD, LOG, STORE, ACQUIRE, LOGREL, RELEASE, FLUSH, FLUSHLOG, FENCE, PRUNE, EVICTLOG}
 use Rattle.kinds.specs.Kinds.{EVICTCELL, EVICTWORDS}

@@ -1,5 +1,7 @@
 // The machine of document 01: four threads' logs over one cache, the locks, and the clocks that decide races. Each kind of step has its
 // method.
+#![tactic(auto)]
+
 ghost use Rattle.std.specs.Prelude.{◌≡◌, length};
 ghost use Rattle.cache.specs.Cache.{cell_count};
 ghost use Rattle.machine.specs.Holds.{fresh_machine, start_of};
@@ -18,14 +20,14 @@ use kinds::{
     RELEASE, STORE, input_answer,
 };
 use locks::{Holder, Lock};
-use log::Log;
 use reader::IMAGE_WORDS;
 use sizes::{CELLS, ENTRY_WORDS, LOCKS, THREADS};
+use thread_log::Log;
 use undo::store_answer;
 use writer::write_log;
 
 // Fields are private, so that machine values come only from the start call and from steps.
-#[derive(Drop)]
+#[derive(Clone, Copy)]
 pub struct Machine {
     cache: Cache,
     logs: [Log; THREADS],
@@ -37,7 +39,7 @@ pub struct Machine {
 }
 
 // A step's answer, beside the next machine.
-#[derive(Drop)]
+#[derive(Clone, Copy)]
 pub struct Stepped {
     pub answer: Answer,
     pub machine: Machine,

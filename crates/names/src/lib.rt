@@ -1,4 +1,6 @@
 // Whether two texts are the same, and which kind of step a name is that of.
+#![tactic(auto)]
+
 ghost use Rattle.std.specs.Prelude.{◌≡◌, cond};
 ghost use Rattle.names.specs.Names.{kind_named};
 ghost use Rattle.names.specs.Text.{same_text};

@@ -1,6 +1,5 @@
 -- A number in decimal: the number that a text is, and the text of a number.
-use Rattle.std.specs.Prelude.{ℕ, zero, suc, ◌+◌, ◌-◌, ◌*◌, ◌^◌, Bool, cond, ◌&&◌, List, [], ◌∷◌, eqb, leb, ltb}
-use Rattle.io.specs.Digits.{last_digits}
+use Rattle.std.specs.Prelude.{ℕ, zero, suc, ◌+◌, ◌-◌, ◌*◌, ◌/◌, ◌%◌, ◌^◌, Bool, cond, ◌&&◌, List, [], ◌∷◌, ◌++◌, eqb, leb, ltb}
 use Rattle.number.specs.declared.Field.{Field}
 use Rattle.number.specs.declared.Field.TheVariants.{Number, Nothing}
 
@@ -25,6 +24,15 @@ number_in (first ∷ second ∷ text) = cond (eqb first 48) Nothing (digits_afte
 unfoldable pub places_from : ℕ → ℕ → ℕ → ℕ
 places_from zero places number = places
 places_from (suc more) places number = cond (ltb number (10 ^ places)) places (places_from more (suc places) number)
+
+-- the ASCII code of a digit below 16: `0` to `9`, then `a` to `f`
+abbrev pub hex_digit_ascii : ℕ → ℕ
+hex_digit_ascii d = cond (ltb d 10) (48 + d) (87 + d)
+
+-- the last k digits of n in base b, the most significant first
+abbrev pub last_digits : ℕ → ℕ → ℕ → List ℕ
+last_digits b zero n = []
+last_digits b (suc k) n = last_digits b k (n / b) ++ (hex_digit_ascii (n % b) ∷ [])
 
 -- a number below 2^64, which has 1 to 20 digits, "in decimal .. without leading zeros"
 unfoldable pub decimal_text : ℕ → List ℕ

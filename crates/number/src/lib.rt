@@ -1,9 +1,11 @@
 // The number that a text is, in decimal, and what a field of a line says.
+#![tactic(auto)]
+
 ghost use Rattle.std.specs.Prelude.{◌≡◌};
 ghost use Rattle.number.specs.Decimal.{number_in};
 
 // A field of a line says a number (a name says its kind's), or nothing.
-#[derive(Drop)]
+#[derive(Clone, Copy)]
 pub enum Field {
     Number(u64),
     Nothing,

@@ -1,4 +1,6 @@
 // Marks a claimed undo order against an image: pair by pair, thread and LSN. Stands on the test of one pair, and on how an image is tested.
+#![tactic(auto)]
+
 ghost use Rattle.std.specs.Prelude.{◌≡◌};
 ghost use Rattle.image.specs.Stored.{stored_logs};
 ghost use Rattle.image.specs.Reading.{Headed};
@@ -13,7 +15,7 @@ pub const MOST_WORDS: usize = 512;
 // What a list is answered: 0, or the refusal; and with 27 the place, from 0, of its first bad pair, or the number of pairs where entries
 // are missing, else 0. The place stands here, as the count does in the answer of a call that logs many cells: the number beside a refusal
 // in `Answer` is 0.
-#[derive(Drop)]
+#[derive(Clone, Copy)]
 pub struct Checked {
     pub answer: Answer,
     pub place: usize,

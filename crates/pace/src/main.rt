@@ -1,5 +1,7 @@
 // Takes 100,800 steps of all thirteen kinds, all accepted, so that a step can be timed: 100 runs of 63 rounds of 16 steps, by the four
 // threads in turn. Prints the number of steps and the sum of the runs' last answers: each run ends in a PRUNE that frees 3 entries.
+#![tactic(auto)]
+
 ghost use Rattle.std.specs.Prelude.{◌≡◌, length};
 
 use kinds::{
@@ -7,6 +9,7 @@ use kinds::{
     RELEASE, STORE,
 };
 use sizes::CELLS;
+use std::io;
 
 // The kinds of a round's steps.
 const KINDS: [u64; 16] = [
@@ -75,13 +78,7 @@ fn last_given(start: &[u64], steps: &[u64]) -> u64 {
     answer::value(answer)
 }
 
-// Writes a number and a byte after it.
-fn write_number(number: u64, end: &[u8]) {
-    io::print_decimal(1, number);
-    io::write_all(1, end);
-}
-
-fn main() {
+fn main(rt: HostRuntime) -> io::Result<()> {
     let start = [0u64; CELLS];
     let steps = all_steps();
     let mut runs = 0u64;
@@ -90,6 +87,5 @@ fn main() {
         sum = (sum + last_given(&start, &steps) % 1000) % 1000;
         runs += 1;
     }
-    write_number(runs * 1008, b" ");
-    write_number(sum, b"\n");
+    println!(rt; "{} {sum}", runs * 1008)
 }

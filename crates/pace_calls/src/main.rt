@@ -1,8 +1,11 @@
 // Logs 100,800 cells, 16 in a call, so that a cell of a call can be timed: 6,300 calls by the four threads in turn, each on the fresh
 // machine, so that every cell makes an entry. Prints how many cells were accepted.
+#![tactic(auto)]
+
 use batch::log_cells;
 use machine::Machine;
 use sizes::CELLS;
+use std::io;
 
 // How many calls there are.
 const CALLS: u64 = 6300;
@@ -24,7 +27,6 @@ fn logged(calls: u64) -> u64 {
     sum
 }
 
-fn main() {
-    io::print_decimal(1, logged(CALLS));
-    io::write_all(1, b"\n");
+fn main(rt: HostRuntime) -> io::Result<()> {
+    println!(rt; "{}", logged(CALLS))
 }

@@ -1,7 +1,7 @@
 -- What a pair is tested for: its thread, that the thread has an entry left, its LSN, and whether its entry may be taken.
 use Prim.Native.Nat.{ℕ, ◌+◌, ◌≤◌, ◌<◌}
 use mathlib.Core.Path.{◌≡◌, refl, sym, ◌∙◌}
-use mathlib.Core.Bool.{Bool, true, false, and_false, true≢false}
+use mathlib.Core.Bool.{Bool, true, false, and-false, true≢false}
 use mathlib.Core.List.{List}
 use borrow.Author.Tests.{eqb-true, eq-eqb, ne_eqb, ltb-true, lt-ltb, le-ltb}
 use Rattle.sizes.specs.Sizes.{thread_count}
@@ -44,12 +44,12 @@ module _ (logs : List StoredLog) (left : List ℕ) where
 
   pub none-remains : (thread lsn : ℕ) → left_of left thread ≡ 0 → may_take_name logs left (name thread lsn) ≡ false
   unfolding may_take_name may_take
-  none-remains thread lsn nothing = rw (eq-eqb (left_of left thread) 0 nothing, and_false)
+  none-remains thread lsn nothing = rw (eq-eqb (left_of left thread) 0 nothing, and-false)
 
   pub other-lsn : (thread lsn : ℕ) → (lsn ≡ (stored_log logs thread).head + last_of left thread → ⊥) →
       may_take_name logs left (name thread lsn) ≡ false
   unfolding may_take_name
-  other-lsn thread lsn differs = rw (ne_eqb lsn ((stored_log logs thread).head + last_of left thread) differs, and_false)
+  other-lsn thread lsn differs = rw (ne_eqb lsn ((stored_log logs thread).head + last_of left thread) differs, and-false)
 
   pub last-decides : (thread lsn : ℕ) → thread < thread_count → (left_of left thread ≡ 0 → ⊥) →
       lsn ≡ (stored_log logs thread).head + last_of left thread → {last : Entry} {may : Bool} →

@@ -1,4 +1,6 @@
 // Whether one pair of a claimed undo order, thread and LSN, may be taken next. Stands on how an image is tested and read.
+#![tactic(auto)]
+
 ghost use Rattle.std.specs.Prelude.{◌≡◌, ◌&&◌, ◌<◌, eqb, ltb};
 ghost use Rattle.sizes.specs.Sizes.{thread_count};
 ghost use Rattle.answer.specs.Lists.{some_below};

@@ -1,12 +1,15 @@
 // Runs document 01's corner points P1 to P11 on the code, each under that document's words, and says whether it gives what they ask; and
 // prints the slot after each slot.
+#![tactic(auto)]
+
 ghost use Rattle.std.specs.Prelude.{◌≡◌, length};
 
-mod image;
+mod images;
 
-use image::Image;
+use images::Image;
 use kinds::{ACQUIRE, EVICTCELL, FENCE, FLUSH, FLUSHLOG, LOG, LOGREL, PRUNE, RELEASE, STORE};
 use sizes::{CELLS, SLOTS};
+use std::io;
 
 // What no cell holds: a buffer for recovered cells is lent full of it.
 const LENT: u64 = 99;
@@ -18,7 +21,7 @@ const STEP_WORDS: usize = 4;
 const ROOM: usize = 104;
 
 // A list of steps: their words one after another, and how many words these are.
-#[derive(Drop)]
+#[derive(Clone, Copy)]
 struct Steps {
     words: [u64; ROOM],
     used: usize,
@@ -254,11 +257,11 @@ fn point_9() -> bool {
 // P10 "thread 0's log: ACQUIRE lock 0 count 1, RELEASE lock 1 count 0; thread 1's: ACQUIRE lock 1 count 1, RELEASE lock 0 count 0: 24"
 fn point_10() -> bool {
     let half = Image::empty()
-        .with_entry(0, image::ACQUIRE, 0, 1, 1)
-        .with_entry(0, image::RELEASE, 1, 0, 2);
+        .with_entry(0, images::ACQUIRE, 0, 1, 1)
+        .with_entry(0, images::RELEASE, 1, 0, 2);
     let whole = half
-        .with_entry(1, image::ACQUIRE, 1, 1, 1)
-        .with_entry(1, image::RELEASE, 0, 0, 2);
+        .with_entry(1, images::ACQUIRE, 1, 1, 1)
+        .with_entry(1, images::RELEASE, 0, 0, 2);
     let words = whole.words;
     refuses(&words, 24)
 }
@@ -270,39 +273,37 @@ fn point_11() -> bool {
 }
 
 // Says whether a point agrees.
-fn report(point: &[u8], agrees: bool) {
-    io::write_all(1, point);
+fn report<P: Print>(rt: &P, point: &str, agrees: bool) -> io::Result<()> {
     if agrees {
-        io::write_all(1, b" agrees\n");
+        println!(rt; "{point} agrees")
     } else {
-        io::write_all(1, b" DIFFERS\n");
+        println!(rt; "{point} DIFFERS")
     }
 }
 
 // Document 02 "for each slot 0 to 63 the slot of the rank after, so 0 after 63", in a line.
-fn print_slots_after() {
-    io::write_all(1, b"slots after 0 to 63:");
+fn print_slots_after<P: Print>(rt: &P) -> io::Result<()> {
+    print!(rt; "slots after 0 to 63:")?;
     let mut slot: u8 = 0;
     while (slot as usize) < SLOTS {
-        io::write_all(1, b" ");
-        io::print_decimal(1, ring::next_slot(slot) as u64);
+        print!(rt; " {}", ring::next_slot(slot))?;
         slot += 1;
     }
-    io::write_all(1, b"\n");
+    println!(rt;)
 }
 
 // Runs the points in document 01's order, and then the slots.
-fn main() {
-    report(b"P1", point_1());
-    report(b"P2", point_2());
-    report(b"P3", point_3());
-    report(b"P4", point_4());
-    report(b"P5", point_5());
-    report(b"P6", point_6());
-    report(b"P7", point_7());
-    report(b"P8", point_8());
-    report(b"P9", point_9());
-    report(b"P10", point_10());
-    report(b"P11", point_11());
-    print_slots_after();
+fn main(rt: HostRuntime) -> io::Result<()> {
+    report(&rt, "P1", point_1())?;
+    report(&rt, "P2", point_2())?;
+    report(&rt, "P3", point_3())?;
+    report(&rt, "P4", point_4())?;
+    report(&rt, "P5", point_5())?;
+    report(&rt, "P6", point_6())?;
+    report(&rt, "P7", point_7())?;
+    report(&rt, "P8", point_8())?;
+    report(&rt, "P9", point_9())?;
+    report(&rt, "P10", point_10())?;
+    report(&rt, "P11", point_11())?;
+    print_slots_after(&rt)
 }

@@ -1,4 +1,6 @@
 // What is printed of a step, of a recovered cell, of a cut and of a marked order, into a lent buffer. What does not fit is not written.
+#![tactic(auto)]
+
 ghost use Rattle.std.specs.Prelude.{◌≡◌, ◌≤◌, length};
 ghost use Rattle.buffer.specs.Buffers.{written, place_after};
 ghost use Rattle.print.specs.Printed.{numbers_text, labelled_text, result_text, cell_text, cut_line_text, marked_text};

@@ -3,7 +3,7 @@ use mathlib.Core.List.{List}
 use mathlib.Core.Path.{refl}
 use Rattle.answer.proofs.RefusalLaws.{AllRefuse}
 use Rattle.cache.specs.declared.Cache.{Cache}
-use Rattle.log.specs.declared.Log.{Log}
+use Rattle.thread_log.specs.declared.Log.{Log}
 use Rattle.locks.specs.declared.Lock.{Lock}
 use Rattle.prune.specs.Pruning.{prune_tests}
 

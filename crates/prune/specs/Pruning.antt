@@ -5,8 +5,8 @@ use Rattle.answer.specs.Refusals.{Test, ◌⇒◌, unless}
 use Rattle.answer.specs.declared.Answer.TheVariants.{Accepted, EntryNotDurable, NothingToPrune, EarlierReleaseNotPruned, CellNotDurable}
 use Rattle.cache.specs.Cache.{is_durable}
 use Rattle.cache.specs.declared.Cache.{Cache}
-use Rattle.log.specs.Entries.{drop_of}
-use Rattle.log.specs.declared.Log.{Log}
+use Rattle.thread_log.specs.Entries.{drop_of}
+use Rattle.thread_log.specs.declared.Log.{Log}
 use Rattle.undo.specs.Entering.{live_event}
 use Rattle.undo.specs.Regions.{is_undurable_up_to, oldest_region, is_finished}
 use Rattle.event.specs.declared.Event.{Event}

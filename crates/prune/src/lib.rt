@@ -1,4 +1,6 @@
 // PRUNE, on parts of the machine. Every function takes any parts.
+#![tactic(auto)]
+
 ghost use Rattle.std.specs.Prelude.{◌≡◌, ◌-◌, ltb, get_or};
 ghost use Rattle.answer.specs.Lists.{some_below};
 ghost use Rattle.answer.specs.Refusals.{first_refusal};
@@ -11,15 +13,15 @@ use answer::Answer;
 use cache::Cache;
 use event::{Event, SyncCount};
 use locks::Lock;
-use log::Log;
 use region::{live_event, oldest};
 use ring::Lsn;
 use sizes::LOCKS;
 use tail::Tail;
+use thread_log::Log;
 use undo::Region;
 
 // The answer of a PRUNE, beside the thread's log and the locks after it.
-#[derive(Drop)]
+#[derive(Clone, Copy)]
 pub struct Pruned {
     pub answer: Answer,
     pub log: Log,

@@ -1,4 +1,6 @@
 // A log's stretch of an image, read: a thread's own words of a lent image, the words of a slot, and how many entries are present.
+#![tactic(auto)]
+
 ghost use Rattle.std.specs.Prelude.{◌≡◌};
 ghost use Rattle.reader.specs.Stretch.{stretch_of, word_at, present_of};
 

@@ -1,4 +1,6 @@
 // Recovery: what an image's cells were before the regions that were not pruned. Stands on how an image is tested and undone.
+#![tactic(auto)]
+
 ghost use Rattle.std.specs.Prelude.{◌≡◌, ◌≤◌, ltb, length, take};
 ghost use Rattle.sizes.specs.Sizes.{thread_count};
 ghost use Rattle.answer.specs.Lists.{some_below};

@@ -7,8 +7,8 @@ use native.Mathlib.Decide.{ℕ_discrete}
 use native.Mathlib.Numerals.{add-one}
 use native.Mathlib.Omega.{arith}
 use borrow.Author.Tests.{eq-eqb, ne_eqb, le-leb}
-use Rattle.log.specs.Entries.{live_count, drop_of, drop_to_of}
-use Rattle.log.specs.declared.Log.{Log}
+use Rattle.thread_log.specs.Entries.{live_count, drop_of, drop_to_of}
+use Rattle.thread_log.specs.declared.Log.{Log}
 use Rattle.undo.specs.Entering.{live_event}
 use Rattle.undo.specs.Regions.{is_acquire, is_release, goes_on, oldest_region, is_finished}
 use Rattle.undo.proofs.RegionLaws.{goes-most}

@@ -1,11 +1,13 @@
 // The oldest region of a log that is not pruned: its entries, and whether it is finished.
+#![tactic(auto)]
+
 ghost use Rattle.std.specs.Prelude.{◌≡◌, true, false, cond, not, ◌&&◌, eqb, ltb};
 ghost use Rattle.undo.specs.Entering.{live_event};
 ghost use Rattle.undo.specs.Regions.{is_acquire, is_release, oldest_region, oldest_of};
 
 use event::{Event, event_of};
-use log::Log;
 use ring::slot_after;
+use thread_log::Log;
 use undo::Region;
 
 // What the live entry says that has so many live ones before it.

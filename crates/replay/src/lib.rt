@@ -1,4 +1,6 @@
 // A whole run over lent buffers: the start call, steps given as words, the cut and recovery. Its promise is demand 3.
+#![tactic(auto)]
+
 ghost use Rattle.std.specs.Prelude.{◌≡◌};
 ghost use Rattle.machine.specs.Holds.{start_of};
 ghost use Rattle.replay.specs.Replay.{steps_of, run_of, replay_of};

@@ -1,4 +1,6 @@
 // Log sequence numbers, and the slots that they sit in.
+#![tactic(auto)]
+
 ghost use Rattle.std.specs.Prelude.{◌≡◌, ◌+◌, ◌-◌, eqb};
 ghost use Rattle.answer.specs.Lists.{some_below};
 ghost use Rattle.ring.specs.Ring.{slot_of, next_slot_of};
@@ -6,7 +8,7 @@ ghost use Rattle.ring.specs.Ring.{slot_of, next_slot_of};
 use sizes::SLOTS;
 
 // A log sequence number (document 01: rank), 1 to 1,000,000 in one thread's log. Never added to or compared with a lock's count.
-#[derive(Drop)]
+#[derive(Clone, Copy)]
 pub struct Lsn(pub u32);
 
 // The slot of the LSN after the one in this slot: 0 after 63. Numbers from 64 on, which are no slots, answer the slot of the number after.

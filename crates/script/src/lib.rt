@@ -1,5 +1,7 @@
 // How a text line's fields are read: the steps that it stands for. An old listing's EVICT, the eviction of a line that was once a step,
 // stands for an EVICTCELL of each of the line's cells; any other line for the step that it says.
+#![tactic(auto)]
+
 ghost use Rattle.std.specs.Prelude.{◌≡◌};
 ghost use Rattle.script.specs.Script.{reading_of};
 
@@ -12,7 +14,7 @@ const EVICT: u64 = 11;
 
 // The steps of a text line: so many of one kind and thread, from a first place on, each with the line's value. Where there is none, the
 // answer says why.
-#[derive(Drop)]
+#[derive(Clone, Copy)]
 pub struct Reading {
     pub answer: Answer,
     pub kind: u64,

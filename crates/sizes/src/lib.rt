@@ -1,4 +1,6 @@
 // The sizes of the machine, each once, as indices and lengths; `words` has those that are compared with 64-bit words.
+#![tactic(auto)]
+
 pub mod words;
 
 // Threads, each with a log of its own.

@@ -1,4 +1,6 @@
 // A step of any kind, by its number: the path of every program that takes steps. It stands on the machine's methods, one for each kind.
+#![tactic(auto)]
+
 ghost use Rattle.std.specs.Prelude.{◌≡◌};
 ghost use Rattle.machine.specs.Runs.{Reached};
 ghost use Rattle.machine.specs.Steps.{step_of};

@@ -10,8 +10,8 @@ use Rattle.cache.specs.Cache.{cache_of, store_of, flush_of, fence_of, evict_cell
 use Rattle.tail.specs.Tail.{fresh_tail, flushed_tail, fenced_tail, released_tail}
 use Rattle.append.specs.Append.{grown_tail, room_tests}
 use Rattle.entry.specs.Words.{words_of}
-use Rattle.log.specs.Entries.{fresh_log, is_live_slot, flush_log_of, persist_words, persist_slot, persist_from, fence_log_of}
-use Rattle.log.specs.Entries.{evict_slot_tests, evict_words_of, drop_of, append_of}
+use Rattle.thread_log.specs.Entries.{fresh_log, is_live_slot, flush_log_of, persist_words, persist_slot, persist_from, fence_log_of}
+use Rattle.thread_log.specs.Entries.{evict_slot_tests, evict_words_of, drop_of, append_of}
 use Rattle.undo.specs.Entering.{end_release_of}
 use Rattle.event.specs.Events.{event_of}
 use Rattle.undo.specs.Regions.{logged_among, logged_of, goes_on, oldest_region, is_finished}

@@ -1,18 +1,20 @@
 // The thread's record: how far its log has come, and the lock that it is releasing. Knows nothing of what an entry says.
+#![tactic(auto)]
+
 ghost use Rattle.std.specs.Prelude.{◌≡◌};
 ghost use Rattle.tail.specs.Tail.{live_of, unfenced, is_releasing, is_releasing_lock, flushed_tail, fenced_tail, released_tail};
 
 use ring::Lsn;
 
 // The lock that a thread is releasing (document 01: closing), between its RELEASE entry and its RELEASE step.
-#[derive(Drop)]
+#[derive(Clone, Copy)]
 pub enum Releasing {
     Nothing,
     Lock(u8),
 }
 
 // The thread's record: the next LSN, the last durable one, the last flushed one, and the lock being released.
-#[derive(Drop)]
+#[derive(Clone, Copy)]
 pub struct Tail {
     pub next: Lsn,
     pub durable: Lsn,

@@ -8,9 +8,9 @@ use Rattle.answer.specs.Refusals.{Test, ◌⇒◌, unless, first_refusal}
 use Rattle.answer.specs.declared.Answer.{Answer}
 use Rattle.answer.specs.declared.Answer.TheVariants.{Accepted}
 use Rattle.answer.proofs.RefusalLaws.{AllRefuse, not-zero, unless-both}
-use Rattle.log.specs.Entries.{append_tests, appended_of}
-use Rattle.log.specs.declared.Changed.{Changed}
-use Rattle.log.specs.declared.Log.{Log}
+use Rattle.thread_log.specs.Entries.{append_tests, appended_of}
+use Rattle.thread_log.specs.declared.Changed.{Changed}
+use Rattle.thread_log.specs.declared.Log.{Log}
 use Rattle.undo.specs.Entering.{enter_of, entered_of}
 use Rattle.event.specs.declared.Event.{Event}
 

@@ -9,13 +9,13 @@ use native.Mathlib.Omega.{arith}
 use borrow.Author.Tests.{eqb-true, eqb-false}
 use lib.Dec.{eqb}
 use Rattle.ring.specs.Ring.{lsn}
-use Rattle.log.specs.Entries.{live_count}
+use Rattle.thread_log.specs.Entries.{live_count}
 use Rattle.undo.specs.Regions.{is_acquire, is_release, searched, logged_among, logged_of}
 use Rattle.event.specs.declared.Event.{Event}
 use Rattle.event.specs.declared.Event.TheVariants.{Empty, Store, Acquire, Release}
 use Rattle.undo.specs.declared.Found.{Found}
 use Rattle.undo.specs.declared.Found.TheVariants.{Nowhere, At}
-use Rattle.log.specs.declared.Log.{Log}
+use Rattle.thread_log.specs.declared.Log.{Log}
 use Rattle.undo.proofs.UndoInvariant.{UndoHolds}
 use Rattle.undo.proofs.RegionLaws.{moved, live-event}
 

@@ -10,11 +10,11 @@ use lib.Dec.{eqb}
 use Rattle.event.specs.Events.{event_of}
 use Rattle.undo.specs.Entering.{live_event}
 use Rattle.entry.specs.Words.{said_by}
-use Rattle.log.specs.Entries.{live_count}
+use Rattle.thread_log.specs.Entries.{live_count}
 use Rattle.undo.specs.Regions.{is_acquire, is_release, goes_on, oldest_region}
 use Rattle.event.specs.declared.Event.{Event}
 use Rattle.entry.specs.declared.Entry.{Entry}
-use Rattle.log.specs.declared.Log.{Log}
+use Rattle.thread_log.specs.declared.Log.{Log}
 use Rattle.event.proofs.EventLaws.{says}
 use Rattle.undo.proofs.UndoInvariant.{UndoHolds}
 

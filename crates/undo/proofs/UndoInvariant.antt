@@ -8,11 +8,11 @@ use borrow.Author.Tests.{eq-eqb, ne_eqb}
 use lib.Dec.{eqb}
 use Rattle.answer.proofs.RefusalLaws.{AllFail}
 use Rattle.tail.specs.Tail.{released_tail}
-use Rattle.log.specs.Entries.{is_live_slot, append_tests, flush_log_of, fence_log_of, evict_words_of, drop_of}
-use Rattle.log.specs.declared.Log.{Log}
+use Rattle.thread_log.specs.Entries.{is_live_slot, append_tests, flush_log_of, fence_log_of, evict_words_of, drop_of}
+use Rattle.thread_log.specs.declared.Log.{Log}
 use Rattle.entry.specs.declared.Payload.{Payload}
-use Rattle.log.proofs.LogInvariant as Slots
-use Rattle.log.proofs.LogInvariant.{LogHolds, append-holds, retail-holds}
+use Rattle.thread_log.proofs.LogInvariant as Slots
+use Rattle.thread_log.proofs.LogInvariant.{LogHolds, append-holds, retail-holds}
 use Rattle.event.specs.Events.{payload_of, closes_of}
 use Rattle.undo.specs.Entering.{enter_of, end_release_of}
 use Rattle.event.specs.declared.Event.{Event}

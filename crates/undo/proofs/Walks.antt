@@ -10,7 +10,7 @@ use Rattle.undo.specs.Regions.{searched, logged_among}
 use Rattle.ring.specs.declared.Lsn.{Lsn}
 use Rattle.entry.specs.declared.Entry.{Entry}
 use Rattle.undo.specs.declared.Found.TheVariants.{At}
-use Rattle.log.specs.declared.Log.{Log}
+use Rattle.thread_log.specs.declared.Log.{Log}
 
 -- a log with these cached entries and this head
 abbrev pub seen : List Entry → Lsn → Log

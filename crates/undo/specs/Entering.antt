@@ -4,9 +4,9 @@ use Rattle.answer.specs.Answer.{is_accepted}
 use Rattle.answer.specs.declared.Answer.{Answer}
 use Rattle.entry.specs.Words.{said_by}
 use Rattle.tail.specs.Tail.{released_tail}
-use Rattle.log.specs.Entries.{entry_at, append_of, appended_of, with_tail}
-use Rattle.log.specs.declared.Changed.{Changed}
-use Rattle.log.specs.declared.Log.{Log}
+use Rattle.thread_log.specs.Entries.{entry_at, append_of, appended_of, with_tail}
+use Rattle.thread_log.specs.declared.Changed.{Changed}
+use Rattle.thread_log.specs.declared.Log.{Log}
 use Rattle.event.specs.Events.{payload_of, event_of, closes_of}
 use Rattle.event.specs.declared.Event.{Event}
 

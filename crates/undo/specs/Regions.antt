@@ -5,8 +5,8 @@ use Rattle.answer.specs.Refusals.{Test, ◌⇒◌}
 use Rattle.answer.specs.declared.Answer.TheVariants.{Releasing, NotLogged, EntryNotDurable}
 use Rattle.ring.specs.Ring.{lsn}
 use Rattle.tail.specs.Tail.{is_releasing}
-use Rattle.log.specs.Entries.{live_count}
-use Rattle.log.specs.declared.Log.{Log}
+use Rattle.thread_log.specs.Entries.{live_count}
+use Rattle.thread_log.specs.declared.Log.{Log}
 use Rattle.undo.specs.Entering.{live_event}
 use Rattle.event.specs.declared.Event.{Event}
 use Rattle.event.specs.declared.Event.TheVariants.{Empty, Store, Acquire, Release}

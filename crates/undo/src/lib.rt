@@ -1,4 +1,6 @@
 // An undo log: events entered in it, and the regions that they make.
+#![tactic(auto)]
+
 ghost use Rattle.std.specs.Prelude.{◌≡◌};
 ghost use Rattle.answer.specs.Refusals.{first_refusal};
 ghost use Rattle.undo.specs.Entering.{entered_of};
@@ -6,18 +8,18 @@ ghost use Rattle.undo.specs.Regions.{logged_of, is_found, is_undurable_found, st
 
 use answer::Answer;
 use event::{Event, event_of};
-use log::{Changed, Log};
 use ring::{Lsn, slot_after};
+use thread_log::{Changed, Log};
 
 // Where the current region has a cell's entry.
-#[derive(Drop)]
+#[derive(Clone, Copy)]
 pub enum Found {
     Nowhere,
     At(Lsn),
 }
 
 // The oldest region that is not pruned: how many entries it has, its first and its last one, and whether it is finished.
-#[derive(Drop)]
+#[derive(Clone, Copy)]
 pub struct Region {
     pub size: usize,
     pub first: Event,

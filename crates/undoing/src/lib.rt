@@ -1,5 +1,7 @@
 // Undoing an image: its entries, taken one after the other in the undo order, each STORE's value written back. Stands on how an image is
 // read.
+#![tactic(auto)]
+
 ghost use Rattle.std.specs.Prelude.{◌≡◌, cond, ◌<◌, set, eqb, ltb};
 ghost use Rattle.sizes.specs.Sizes.{thread_count};
 ghost use Rattle.answer.specs.Lists.{some_below};
@@ -17,7 +19,7 @@ use sizes::{CELLS, LOCKS, SLOTS, THREADS, words};
 const ENTRIES: usize = THREADS * SLOTS;
 
 // Of one lock, the largest count among each thread's ACQUIREs that are left, and 0 where there is none.
-#[derive(Drop)]
+#[derive(Clone, Copy)]
 struct Latest {
     t0: SyncCount,
     t1: SyncCount,
@@ -26,14 +28,14 @@ struct Latest {
 }
 
 // What is remembered of the ACQUIREs that are left: each lock's latest, and for each entry of each thread what its thread had before it.
-#[derive(Drop)]
+#[derive(Clone, Copy)]
 struct Remembered {
     latest: [Latest; LOCKS],
     earlier: [SyncCount; ENTRIES],
 }
 
 // How many entries each thread has left to take, and the cells so far.
-#[derive(Drop)]
+#[derive(Clone, Copy)]
 pub struct Undone {
     pub left: [usize; THREADS],
     pub cells: [u64; CELLS],

@@ -1,5 +1,7 @@
 // What is on its way from the cache to persistent memory: lines, by a fence that completes flushes, single cells by an eviction, and how
 // much a fence carries.
+#![tactic(auto)]
+
 ghost use Rattle.std.specs.Prelude.{◌≡◌, true, ◌+◌, ◌<◌, length, eqb};
 ghost use Rattle.answer.specs.Lists.{set_from, mix_from};
 ghost use Rattle.cache.specs.Cache.{cell_count, line_count, line_of, pending_count, fence_of, evict_cell_of};

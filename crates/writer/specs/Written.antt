@@ -2,7 +2,7 @@
 use Rattle.std.specs.Prelude.{ℕ, ◌+◌, cond, List, ◌++◌, length, set, take, drop, ltb}
 use Rattle.reader.specs.Stretch.{heads_at, stretch_words, stretch_at}
 use Rattle.entry.specs.Words.{words_of}
-use Rattle.log.specs.declared.Log.{Log}
+use Rattle.thread_log.specs.declared.Log.{Log}
 
 -- document 01's "per-log writer", over a lent part: its first 256 words are the persisted ones, and a part that is too short is as it was
 unfoldable pub written_of : Log → List ℕ → List ℕ

@@ -1,12 +1,14 @@
 // A log's stretch of an image, written: over a lent part, and with the thread's head into a whole image.
+#![tactic(auto)]
+
 ghost use Rattle.std.specs.Prelude.{◌≡◌, ◌<◌, length};
 ghost use Rattle.sizes.specs.Sizes.{thread_count};
 ghost use Rattle.reader.specs.Stretch.{image_words};
 ghost use Rattle.writer.specs.Written.{written_of, log_into};
 
-use log::Log;
 use reader::{HEADS_AT, LOGS_AT, STRETCH_WORDS};
 use sizes::ENTRY_WORDS;
+use thread_log::Log;
 
 // The first 256 words of the part become the log's persisted ones; a part that is too short stays as it was.
 pub fn write_stretch(log: Log, part: &mut [u64])

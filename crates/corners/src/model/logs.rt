@@ -3,7 +3,7 @@
 ghost use Rattle.std.specs.Prelude.{◌-◌, ◌≤◌};
 
 use crate::model::history::ANY;
-use crate::model::{cells, history};
+use crate::model::{history, model_cells};
 
 // An entry's rank: its place among the thread's entries, from 1.
 pub(crate) fn rank(past: &[u64], thread: u64, entry: usize) -> usize {
@@ -147,7 +147,7 @@ pub(crate) fn logged_unfirm(
     let mut step = from;
     while step < to {
         if history::is_step(past, step, history::LOG, thread, ANY) {
-            if !cells::is_firm(past, history::place_of(past, step), before) {
+            if !model_cells::is_firm(past, history::place_of(past, step), before) {
                 return true;
             }
         }

@@ -1,6 +1,6 @@
 // What a step answers: refused because of its input, refused because of the history, or accepted with its number.
 use crate::model::history::ANY;
-use crate::model::{cells, happening, history, logs};
+use crate::model::{happening, history, logs, model_cells};
 
 // How many places a step of the kind can name; 0 where the place is unused.
 fn place_count(kind: u64) -> u64 {
@@ -131,7 +131,7 @@ fn acquire_refusal(past: &[u64], thread: u64, lock: u64, step: usize) -> u64 {
     if logs::closing(past, thread, step) != 0 {
         return 7;
     }
-    if cells::holding(past, lock, step) != 0 {
+    if model_cells::holding(past, lock, step) != 0 {
         return 12;
     }
     if ranks_given(past, thread, step) {
@@ -148,7 +148,7 @@ fn logrel_refusal(past: &[u64], thread: u64, lock: u64, step: usize) -> u64 {
     if logs::closing(past, thread, step) != 0 {
         return 7;
     }
-    let acquired = cells::holding(past, lock, step);
+    let acquired = model_cells::holding(past, lock, step);
     if acquired == 0 || history::thread_of(past, acquired) != thread {
         return 13;
     }
@@ -187,7 +187,7 @@ fn is_too_early(past: &[u64], first: usize, step: usize) -> bool {
         return false;
     }
     let lock = history::place_of(past, first);
-    logs::pruned_releases(past, lock, step) < cells::lock_count(past, lock, first)
+    logs::pruned_releases(past, lock, step) < model_cells::lock_count(past, lock, first)
 }
 
 // PRUNE 15, 11, 16, 17.
@@ -271,7 +271,7 @@ fn logged_rank(past: &[u64], thread: u64, cell: u64, step: usize) -> u64 {
 // at 1,000,000, so the remainder is the number itself.
 fn carried(past: &[u64], thread: u64, step: usize) -> u64 {
     let entries = logs::unfenced(past, thread, step) as u64;
-    cells::marked_lines(past, thread, step) + entries % 1000001
+    model_cells::marked_lines(past, thread, step) + entries % 1000001
 }
 
 // The number that an accepted step gives: a LOAD the seen content, a LOG a rank, an ACQUIRE or LOGREL the lock's count, a FENCE what it
@@ -279,16 +279,16 @@ fn carried(past: &[u64], thread: u64, step: usize) -> u64 {
 pub(crate) fn given(start: &[u64], past: &[u64], kind: u64, thread: u64, place: u64) -> u64 {
     let step = history::next_step(past);
     if kind == history::LOAD {
-        return cells::seen(start, past, place, step);
+        return model_cells::seen(start, past, place, step);
     }
     if kind == history::LOG {
         return logged_rank(past, thread, place, step);
     }
     if kind == history::ACQUIRE {
-        return cells::lock_count(past, place, step) as u64;
+        return model_cells::lock_count(past, place, step) as u64;
     }
     if kind == history::LOGREL {
-        return cells::lock_count(past, place, step) as u64;
+        return model_cells::lock_count(past, place, step) as u64;
     }
     if kind == history::FENCE {
         return carried(past, thread, step);

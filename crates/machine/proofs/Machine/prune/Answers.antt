@@ -1,0 +1,58 @@
+-- `machine::Machine::prune` meets its contract: what PRUNE leaves of the log and the locks, where the input is accepted.
+use Prim.Native.Nat.{◌<◌}
+use mathlib.Core.Path.{sym, ap, ◌∙◌}
+use native.Mathlib.Omega.{arith}
+use Rattle.sizes.specs.Sizes.{thread_count}
+use Rattle.answer.specs.Answer.{number_of}
+use Rattle.kinds.proofs.Inputs.{accepted-thread}
+use Rattle.prune.specs.declared.Pruned.{Pruned}
+use Rattle.machine.proofs.Counts.{reached-counted}
+use Rattle.machine.proofs.Inputs.{input-refused}
+use Rattle.machine.proofs.PartSteps.{Accepts, prune-step}
+use Rattle.machine.proofs.Machine.prune.Goals as goal
+use Rattle.machine.proofs.Machine.prune.Goals.{Then-number-eq0}
+
+-- the input was accepted
+accepted : (c : Then-number-eq0) → let a = c.args in Accepts 10 a.thread 0 0
+accepted c = ap number_of (sym c.input_answer-answer.ensures) ∙ sym c.number.ensures ∙ c.if-number-eq0.true
+
+thread-in : (c : Then-number-eq0) → c.args.thread < thread_count
+thread-in c = let a = c.args in accepted-thread a.thread 0 0 10 (accepted c)
+
+pub offset_bounds-self-at : goal.offset_bounds-self-at
+offset_bounds-self-at c = omega (arith, thread-in (goal.at.offset_bounds-self-at c).Then-number-eq0)
+
+pub bounds-self-at : goal.bounds-self-at
+bounds-self-at c = omega (arith, thread-in (goal.at.bounds-self-at c).Then-number-eq0)
+
+pub offset_bounds-self-at-then-number-eq0-2 : goal.offset_bounds-self-at-then-number-eq0-2
+offset_bounds-self-at-then-number-eq0-2 c = omega (arith, thread-in (goal.at.offset_bounds-self-at-then-number-eq0-2 c).Then-number-eq0)
+
+pub bounds-self-at-then-number-eq0-2 : goal.bounds-self-at-then-number-eq0-2
+bounds-self-at-then-number-eq0-2 c = omega (arith, thread-in (goal.at.bounds-self-at-then-number-eq0-2 c).Then-number-eq0)
+
+pub returns-then-number-eq0-2 : goal.returns-then-number-eq0-2
+returns-then-number-eq0-2 c = let a = c.args in
+    let done = c.prune-pruned.ensures in
+    let is_zero =
+    ap (λ (left : Pruned). number_of left.answer) (sym done) ∙
+    (sym c.number-then-number-eq0.ensures ∙ c.if-number-eq0-2.true) in
+    rw done ((prune-step a.self
+    (reached-counted a.self c.requires)
+    a.thread 0 (accepted (goal.at.returns-then-number-eq0-2 c).Then-number-eq0)).0 is_zero)
+
+pub returns-else-number-eq0-2 : goal.returns-else-number-eq0-2
+returns-else-number-eq0-2 c = let a = c.args in
+    let done = c.prune-pruned.ensures in
+    let answer = ap (λ (left : Pruned). left.answer) done in
+    rw answer ((prune-step a.self
+    (reached-counted a.self c.requires)
+    a.thread 0 (accepted (goal.at.returns-else-number-eq0-2 c).Then-number-eq0)).1
+    (λ zero. c.if-number-eq0-2.false (c.number-then-number-eq0.ensures ∙ (ap number_of answer ∙ zero))))
+
+-- a PRUNE whose input is refused answers that refusal and leaves the machine as it was
+pub returns-else-number-eq0 : goal.returns-else-number-eq0
+returns-else-number-eq0 c = let a = c.args in
+    let asked = c.input_answer-answer.ensures in
+    rw asked (sym
+    (input-refused a.self a.thread 0 0 10 (λ zero. c.if-number-eq0.false (c.number.ensures ∙ (ap number_of asked ∙ zero)))))

@@ -1,0 +1,12 @@
+-- `points::same` meets its contract.
+use Prim.Native.Nat.{◌-◌, ◌≤◌}
+use lib.ListN.{length}
+use Rattle.points.proofs.same.Reads as reads
+use Rattle.points.proofs.same.Lts as lts
+use Rattle.points.proofs.same.Given as goal
+
+abbrev pub invariant-loop-i : goal.invariant-loop-i
+invariant-loop-i l = l.i ≤ length l.one
+
+abbrev pub decreases-loop-i : goal.decreases-loop-i
+decreases-loop-i l = length l.one - l.i

@@ -1,0 +1,2 @@
+-- Laws of looking for a byte.
+pub mod FindLaws

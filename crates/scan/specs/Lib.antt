@@ -1,0 +1,2 @@
+-- Looking for a byte.
+pub mod Find
