@@ -1,2 +1,2 @@
--- Laws of what stands past the last cell, and of the four threads' accesses of a cell.
+-- Laws of what stands past the last cell.
 pub mod AccessLaws

@@ -1,12 +1,17 @@
 -- LOAD, asked of the accesses, the thread's clock and the cell's content.
-use Rattle.std.specs.Prelude.{ℕ, not, List, [], ◌∷◌, get_or}
+use Rattle.std.specs.Prelude.{Ok, ℕ, not, List, [], ◌∷◌, get_or}
+use Rattle.answer.specs.Answer.{Answer}
 use Rattle.answer.specs.Refusals.{Test, ◌⇒◌, unless}
-use Rattle.answer.specs.declared.Answer.TheVariants.{Accepted, Race}
+use Rattle.answer.specs.declared.Refusal.TheVariants.{Race}
 use Rattle.clocks.specs.Clocks.{clock_at, is_known}
 use Rattle.accesses.specs.Accesses.{loaded_of}
 use Rattle.accesses.specs.declared.Accesses.{Accesses}
 use Rattle.clocks.specs.declared.Clock.{Clock}
-use Rattle.accessing.specs.declared.Loaded.{Loaded}
+
+-- a LOAD's answer, beside the accesses after it
+pub record Loaded : Type 0 where
+  pub answer : Answer
+  pub accesses : Accesses
 
 -- LOAD 8: the cell's last LOG does not happen before it. (Accepted LOGs of a cell are in order, so the last one decides.)
 abbrev pub load_tests_on : Accesses → Clock → ℕ → List Test
@@ -19,4 +24,4 @@ load_on accesses clock thread cell content =
     unless
     (λ answer. record { answer = answer; accesses = accesses })
     (load_tests_on accesses clock cell)
-    (record { answer = Accepted content; accesses = loaded_of accesses thread cell (clock_at clock thread) })
+    (record { answer = Ok content; accesses = loaded_of accesses thread cell (clock_at clock thread) })

@@ -1,136 +1,163 @@
 -- What follows for an outcome of tests in order: it is a refusal by one of them, or all of them failed and the effect happened.
+use Prim.Native.Nat.{ℕ}
 use mathlib.Core.Path.{◌≡◌, refl, sym, ap, ◌∙◌}
-use mathlib.Core.Bool.{Bool, true, false, cond, true≢false}
+use mathlib.Core.Bool.{true, false, cond, true≢false}
 use mathlib.Core.List.{List, [], ◌∷◌, ◌++◌}
 use lib.Dec.{eqb}
-use Rattle.answer.specs.Answer.{number_of, is_accepted}
+use borrow.Author.Tests.{eq-eqb}
+use Rattle.std.specs.Prelude.{Ok, Err}
+use Rattle.answer.specs.Answer.{Answer, refusal_number, is_accepted}
 use Rattle.answer.specs.Refusals.{Test, ◌⇒◌, unless, guarded, first_refusal}
-use Rattle.answer.specs.declared.Answer.{Answer}
-use Rattle.answer.specs.declared.Answer.TheVariants.{Accepted}
+use Rattle.answer.specs.declared.Refusal.{Refusal}
+use Rattle.answer.specs.declared.Refusal.TheVariants.{NoSuchKind, NoSuchThread, NoSuchPlace, UnusedField, NoSuchWordCount}
+use Rattle.answer.specs.declared.Refusal.TheVariants.{LogFull, LsnsUsedUp, Releasing, Race, NotLogged, EntryNotDurable}
+use Rattle.answer.specs.declared.Refusal.TheVariants.{LockHeld, LockNotHeld, NotReleasing, NothingToPrune, EarlierReleaseNotPruned}
+use Rattle.answer.specs.declared.Refusal.TheVariants.{CellNotDurable, NoLiveEntry, Unreadable, WrongLength, BadHead, BadEntry, Cyclic}
+use Rattle.answer.specs.declared.Refusal.TheVariants.{TooManyCells, NotPairs, NotAnOrder}
 
 -- every test failed
 abbrev pub AllFail : List Test → Type 0
 AllFail [] = Unit {0}
-AllFail ((holds ⇒ answer) ∷ tests) = (holds ≡ false) × AllFail tests
-
--- every test gives a refusal
-abbrev pub AllRefuse : List Test → Type 0
-AllRefuse [] = Unit {0}
-AllRefuse ((holds ⇒ answer) ∷ tests) = (is_accepted answer ≡ false) × AllRefuse tests
+AllFail ((holds ⇒ refusal) ∷ tests) = (holds ≡ false) × AllFail tests
 
 pub all_fail_left : (first second : List Test) → AllFail (first ++ second) → AllFail first
 all_fail_left [] second fails = tt
-all_fail_left ((holds ⇒ answer) ∷ first) second fails = (fails.0, all_fail_left first second fails.1)
+all_fail_left ((holds ⇒ refusal) ∷ first) second fails = (fails.0, all_fail_left first second fails.1)
 
 pub all_fail_right : (first second : List Test) → AllFail (first ++ second) → AllFail second
 all_fail_right [] second fails = fails
-all_fail_right ((holds ⇒ answer) ∷ first) second fails = all_fail_right first second fails.1
+all_fail_right ((holds ⇒ refusal) ∷ first) second fails = all_fail_right first second fails.1
 
-pub all_refuse_append : (first second : List Test) → AllRefuse first → AllRefuse second → AllRefuse (first ++ second)
-all_refuse_append [] second one other = other
-all_refuse_append ((holds ⇒ answer) ∷ first) second one other = (one.0, all_refuse_append first second one.1 other)
+-- no refusal has the number 0, which is that of acceptance
+number_is_some : (refusal : Refusal) → eqb (refusal_number refusal) 0 ≡ false
+number_is_some NoSuchKind = refl
+number_is_some NoSuchThread = refl
+number_is_some NoSuchPlace = refl
+number_is_some UnusedField = refl
+number_is_some LogFull = refl
+number_is_some LsnsUsedUp = refl
+number_is_some Releasing = refl
+number_is_some Race = refl
+number_is_some NotLogged = refl
+number_is_some EntryNotDurable = refl
+number_is_some LockHeld = refl
+number_is_some LockNotHeld = refl
+number_is_some NotReleasing = refl
+number_is_some NothingToPrune = refl
+number_is_some EarlierReleaseNotPruned = refl
+number_is_some CellNotDurable = refl
+number_is_some NoLiveEntry = refl
+number_is_some NoSuchWordCount = refl
+number_is_some Unreadable = refl
+number_is_some WrongLength = refl
+number_is_some BadHead = refl
+number_is_some BadEntry = refl
+number_is_some Cyclic = refl
+number_is_some TooManyCells = refl
+number_is_some NotPairs = refl
+number_is_some NotAnOrder = refl
 
--- tests that are asked only where something holds are refusals if they were before
-pub guarded_refuses : (is_asked : Bool) (tests : List Test) → AllRefuse tests → AllRefuse (guarded is_asked tests)
-guarded_refuses is_asked [] refusals = tt
-guarded_refuses is_asked ((holds ⇒ answer) ∷ tests) refusals = (refusals.0, guarded_refuses is_asked tests refusals.1)
+pub not-zero : (refusal : Refusal) → refusal_number refusal ≡ 0 → ⊥
+not-zero refusal is_zero = true≢false (sym (eq-eqb (refusal_number refusal) 0 is_zero) ∙ number_is_some refusal)
+
+-- every test gives a refusal: an answer that is no acceptance, and whose number is not 0
+abbrev pub AllRefuse : List Test → Type 0
+AllRefuse [] = Unit {0}
+AllRefuse ((holds ⇒ refusal) ∷ tests) = (is_accepted (Err refusal) ≡ false) × (refusal_number refusal ≡ 0 → ⊥) × AllRefuse tests
+
+-- so does every test of any list: those of a step's input, of the machine's state, of a lock, of an image and of an undo order
+pub all_refuse : (tests : List Test) → AllRefuse tests
+all_refuse [] = tt
+all_refuse ((holds ⇒ refusal) ∷ tests) = (refl, not-zero refusal, all_refuse tests)
 
 -- where it holds, they are the tests
 pub guarded-asked : (tests : List Test) → guarded true tests ≡ tests
 guarded-asked [] = refl
-guarded-asked ((holds ⇒ answer) ∷ tests) = ap (λ (more : List Test). (holds ⇒ answer) ∷ more) (guarded-asked tests)
+guarded-asked ((holds ⇒ refusal) ∷ tests) = ap (λ (more : List Test). (holds ⇒ refusal) ∷ more) (guarded-asked tests)
 
 -- where it does not hold, none of them decides
 pub guarded_unasked : {A : Type 0} (refuse : Answer → A) (outcome : A) (tests : List Test) →
     unless refuse (guarded false tests) outcome ≡ outcome
 unfolding unless
 guarded_unasked refuse outcome [] = refl
-guarded_unasked refuse outcome ((holds ⇒ answer) ∷ tests) = guarded_unasked refuse outcome tests
+guarded_unasked refuse outcome ((holds ⇒ refusal) ∷ tests) = guarded_unasked refuse outcome tests
 
 -- Two outcomes of the same tests go one way: what holds of both refusals, and of both effects where all tests failed, holds of both.
 pub unless-both : {A B : Type 0} (Q : A → B → Type 0) (refuse : Answer → A) (report : Answer → B) (tests : List Test)
     (outcome : A) (done : B) →
-    AllRefuse tests → ((answer : Answer) → is_accepted answer ≡ false → Q (refuse answer) (report answer)) →
+    ((refusal : Refusal) → Q (refuse (Err refusal)) (report (Err refusal))) →
     (AllFail tests → Q outcome done) → Q (unless refuse tests outcome) (unless report tests done)
 unfolding unless
-unless-both Q refuse report [] outcome done refusals on_refusal on_effect = on_effect tt
-unless-both Q refuse report ((true ⇒ answer) ∷ tests) outcome done refusals on_refusal on_effect = on_refusal answer refusals.0
-unless-both Q refuse report ((false ⇒ answer) ∷ tests) outcome done refusals on_refusal on_effect =
-    unless-both Q refuse report tests outcome done refusals.1 on_refusal (λ fails. on_effect (refl, fails))
+unless-both Q refuse report [] outcome done on_refusal on_effect = on_effect tt
+unless-both Q refuse report ((true ⇒ refusal) ∷ tests) outcome done on_refusal on_effect = on_refusal refusal
+unless-both Q refuse report ((false ⇒ refusal) ∷ tests) outcome done on_refusal on_effect =
+    unless-both Q refuse report tests outcome done on_refusal (λ fails. on_effect (refl, fails))
 
 -- what holds of every refusal, and of the effect where all tests failed, holds of the outcome
 pub unless-cases : {A : Type 0} (Q : A → Type 0) (refuse : Answer → A) (tests : List Test) (outcome : A) →
-    AllRefuse tests → ((answer : Answer) → is_accepted answer ≡ false → Q (refuse answer)) →
-    (AllFail tests → Q outcome) → Q (unless refuse tests outcome)
+    ((refusal : Refusal) → Q (refuse (Err refusal))) → (AllFail tests → Q outcome) → Q (unless refuse tests outcome)
 unless-cases Q refuse tests outcome = unless-both (λ one other. Q one) refuse refuse tests outcome outcome
-
--- an answer that is no acceptance has another number than 0
-pub not-zero : (answer : Answer) → is_accepted answer ≡ false → number_of answer ≡ 0 → ⊥
-not-zero answer refuses zero = true≢false (sym (ap (λ number. eqb number 0) zero) ∙ refuses)
 
 -- tests in order, and then others
 pub unless_append : {A : Type 0} (refuse : Answer → A) (outcome : A) (tests more : List Test) →
     unless refuse (tests ++ more) outcome ≡ unless refuse tests (unless refuse more outcome)
 unfolding unless
 unless_append refuse outcome [] more = refl
-unless_append refuse outcome ((holds ⇒ answer) ∷ tests) more = ap (cond holds (refuse answer)) (unless_append refuse outcome tests more)
+unless_append refuse outcome ((holds ⇒ refusal) ∷ tests) more =
+    ap (cond holds (refuse (Err refusal))) (unless_append refuse outcome tests more)
 
--- Code that asks the tests by a function whose result has the answer in it: what it may say once it looks at the answer's number.
+-- a refusal is no acceptance
+pub never-ok : {A : Type 0} {answer : Answer} {refusal : Refusal} {given : ℕ} → answer ≡ Err refusal → answer ≡ Ok given → A
+never-ok refused accepted = let same = sym refused ∙ accepted in absurd (cc)
+
+-- Code that asks the tests by a function whose result has the answer in it: what it may say once it knows which answer that is.
 module _ {A B : Type 0} (refuse : Answer → A) (outcome : A) (report : Answer → B) (done : B) (answer_of : B → Answer)
-    (reports : (answer : Answer) → answer_of (report answer) ≡ answer) (accepts : number_of (answer_of done) ≡ 0)
-    (tests : List Test) (refusals : AllRefuse tests) where
+    (reports : (refusal : Refusal) → answer_of (report (Err refusal)) ≡ Err refusal) (tests : List Test) where
   -- where one of the tests holds, the outcome is the refusal that the function's result has in it
-  pub one-stops : (number_of (answer_of (unless report tests done)) ≡ 0 → ⊥) →
-      unless refuse tests outcome ≡ refuse (answer_of (unless report tests done))
-  one-stops =
+  pub one-stops : {given : ℕ} → answer_of done ≡ Ok given → {refusal : Refusal} → answer_of (unless report tests done) ≡ Err refusal →
+      unless refuse tests outcome ≡ refuse (Err refusal)
+  one-stops accepts {refusal = refusal} =
       unless-both
-      (λ one other. (number_of (answer_of other) ≡ 0 → ⊥) → one ≡ refuse (answer_of other))
+      (λ one other. answer_of other ≡ Err refusal → one ≡ refuse (Err refusal))
       refuse
       report
       tests
       outcome
       done
-      refusals
-      (λ answer refuses is_refused. ap refuse (sym (reports answer)))
-      (λ fails is_refused. absurd (is_refused accepts))
+      (λ given is_refused. ap refuse (sym (reports given) ∙ is_refused))
+      (λ fails is_refused. never-ok is_refused accepts)
 
   -- where none of the tests holds, the outcome and the function's own effect both happen
-  pub none-stops : number_of (answer_of (unless report tests done)) ≡ 0 →
+  pub none-stops : {given : ℕ} → answer_of (unless report tests done) ≡ Ok given →
       (unless refuse tests outcome ≡ outcome) × (unless report tests done ≡ done) × AllFail tests
-  none-stops =
+  none-stops {given = given} =
       unless-both
-      (λ one other. number_of (answer_of other) ≡ 0 → (one ≡ outcome) × (other ≡ done) × AllFail tests)
+      (λ one other. answer_of other ≡ Ok given → (one ≡ outcome) × (other ≡ done) × AllFail tests)
       refuse
       report
       tests
       outcome
       done
-      refusals
-      (λ answer refuses is_accepted. absurd (not-zero answer refuses (ap number_of (sym (reports answer)) ∙ is_accepted)))
-      (λ fails is_accepted. (refl, refl, fails))
+      (λ refusal accepted. never-ok (reports refusal) accepted)
+      (λ fails accepted. (refl, refl, fails))
 
--- Code that asks for the first refusal, then for what other tests say: what it may say once it looks at the first refusal's number.
-module _ {A : Type 0} (refuse : Answer → A) (outcome : A) (more tests : List Test) (refusals : AllRefuse tests) where
-  pub stops : (number_of (first_refusal tests) ≡ 0 → ⊥) → unless refuse (tests ++ more) outcome ≡ refuse (first_refusal tests)
+-- Code that asks for the first refusal, then for what other tests say: what it may say once it knows the first refusal.
+module _ {A : Type 0} (refuse : Answer → A) (outcome : A) (more tests : List Test) where
+  pub stops : {refusal : Refusal} → first_refusal tests ≡ Err refusal → unless refuse (tests ++ more) outcome ≡ refuse (Err refusal)
   unfolding first_refusal
   stops is_refused =
       unless_append refuse outcome tests more
-      ∙ one-stops refuse (unless refuse more outcome) (λ answer. answer) (Accepted 0) (λ answer. answer)
-      (λ answer. refl) refl tests refusals is_refused
+      ∙ one-stops refuse (unless refuse more outcome) (λ answer. answer) (Ok 0) (λ answer. answer) (λ refusal. refl) tests refl is_refused
 
-  pub goes_on : number_of (first_refusal tests) ≡ 0 → unless refuse (tests ++ more) outcome ≡ unless refuse more outcome
+  pub goes_on : {given : ℕ} → first_refusal tests ≡ Ok given → unless refuse (tests ++ more) outcome ≡ unless refuse more outcome
   unfolding first_refusal
-  goes_on is_accepted =
+  goes_on accepted =
       unless_append refuse outcome tests more
-      ∙ (none-stops refuse (unless refuse more outcome) (λ answer. answer) (Accepted 0) (λ answer. answer)
-      (λ answer. refl) refl tests refusals is_accepted).0
+      ∙ (none-stops refuse (unless refuse more outcome) (λ answer. answer) (Ok 0) (λ answer. answer) (λ refusal. refl) tests accepted).0
 
 -- none of the tests holds where the first refusal is none
-pub none-holds : (tests : List Test) → AllRefuse tests → number_of (first_refusal tests) ≡ 0 →
-    (first_refusal tests ≡ Accepted 0) × AllFail tests
+pub none-holds : (tests : List Test) {given : ℕ} → first_refusal tests ≡ Ok given → (first_refusal tests ≡ Ok 0) × AllFail tests
 unfolding first_refusal
-none-holds tests refusals is_accepted =
-    let asked =
-    none-stops (λ answer. answer) (Accepted 0) (λ answer. answer) (Accepted 0) (λ answer. answer) (λ answer. refl) refl
-    tests refusals is_accepted in
+none-holds tests accepted =
+    let asked = none-stops (λ answer. answer) (Ok 0) (λ answer. answer) (Ok 0) (λ answer. answer) (λ refusal. refl) tests accepted in
     (asked.1, asked.2)

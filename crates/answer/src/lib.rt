@@ -1,76 +1,63 @@
-// The one enum of answers, with document 01's number and value of each case.
+// Answers: what an accepted step gives, or the refusal, with document 01's number of each.
 #![tactic(auto)]
 
 ghost use Rattle.std.specs.Prelude.{◌≡◌};
-ghost use Rattle.answer.specs.Answer.{number_of, value_of};
+ghost use Rattle.answer.specs.Answer.{refusal_number, number_of, value_of};
 
-#[derive(Clone, Copy)]
-pub enum Answer {
-    // The step was taken; the number that document 01 names for its kind, or 0.
-    Accepted(u64),
+// Why a step, an image, a list or a text is refused, by document 01's numbers. There is no 9.
+#[derive(Clone, Copy, Debug, PartialEq, Eq)]
+pub enum Refusal {
     // Refused because of the input.
-    NoSuchKind,
-    NoSuchThread,
-    NoSuchPlace,
-    UnusedField,
-    NoSuchWordCount,
+    NoSuchKind = 1,
+    NoSuchThread = 2,
+    NoSuchPlace = 3,
+    UnusedField = 4,
     // Refused because of the state.
-    LogFull,
-    LsnsUsedUp,
-    Releasing,
-    Race,
-    NotLogged,
-    EntryNotDurable,
-    LockHeld,
-    LockNotHeld,
-    NotReleasing,
-    NothingToPrune,
-    EarlierReleaseNotPruned,
-    CellNotDurable,
-    NoLiveEntry,
+    LogFull = 5,
+    LsnsUsedUp = 6,
+    Releasing = 7,
+    Race = 8,
+    NotLogged = 10,
+    EntryNotDurable = 11,
+    LockHeld = 12,
+    LockNotHeld = 13,
+    NotReleasing = 14,
+    NothingToPrune = 15,
+    EarlierReleaseNotPruned = 16,
+    CellNotDurable = 17,
+    NoLiveEntry = 18,
+    // Refused because of the input, by a later request's number.
+    NoSuchWordCount = 19,
     // A line of text, a buffer, an image, a list of cells or a claimed undo order that can't be used.
-    Unreadable,
-    WrongLength,
-    BadHead,
-    BadEntry,
-    Cyclic,
-    TooManyCells,
-    NotPairs,
-    NotAnOrder,
+    Unreadable = 20,
+    WrongLength = 21,
+    BadHead = 22,
+    BadEntry = 23,
+    Cyclic = 24,
+    TooManyCells = 25,
+    NotPairs = 26,
+    NotAnOrder = 27,
 }
 
-// Document 01's number of an answer.
+// A step's answer: it was taken, with the number that document 01 names for its kind, or 0; or why it is refused.
+pub type Answer = Result<u64, Refusal>;
+
+impl From<Refusal> for u64 {
+    ghost from_gives = { λ refusal number. number ≡ refusal_number refusal };
+
+    // Document 01's number of a refusal.
+    fn from(refusal: Refusal) -> u64 {
+        refusal as u64
+    }
+}
+
+// Document 01's number of an answer: 0 is acceptance.
 pub fn number(answer: Answer) -> u64
     ensures { result ≡ number_of answer }
 {
     match answer {
-        Answer::Accepted(_) => 0,
-        Answer::NoSuchKind => 1,
-        Answer::NoSuchThread => 2,
-        Answer::NoSuchPlace => 3,
-        Answer::UnusedField => 4,
-        Answer::LogFull => 5,
-        Answer::LsnsUsedUp => 6,
-        Answer::Releasing => 7,
-        Answer::Race => 8,
-        Answer::NotLogged => 10,
-        Answer::EntryNotDurable => 11,
-        Answer::LockHeld => 12,
-        Answer::LockNotHeld => 13,
-        Answer::NotReleasing => 14,
-        Answer::NothingToPrune => 15,
-        Answer::EarlierReleaseNotPruned => 16,
-        Answer::CellNotDurable => 17,
-        Answer::NoLiveEntry => 18,
-        Answer::NoSuchWordCount => 19,
-        Answer::Unreadable => 20,
-        Answer::WrongLength => 21,
-        Answer::BadHead => 22,
-        Answer::BadEntry => 23,
-        Answer::Cyclic => 24,
-        Answer::TooManyCells => 25,
-        Answer::NotPairs => 26,
-        Answer::NotAnOrder => 27,
+        Ok(_) => 0,
+        Err(refusal) => u64::from(refusal),
     }
 }
 
@@ -78,9 +65,5 @@ pub fn number(answer: Answer) -> u64
 pub fn value(answer: Answer) -> u64
     ensures { result ≡ value_of answer }
 {
-    if let Answer::Accepted(given) = answer {
-        given
-    } else {
-        0
-    }
+    answer.unwrap_or(0)
 }

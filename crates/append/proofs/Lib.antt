@@ -1,3 +1,2 @@
--- What the tests of an append decide, and the machine values of what it takes and gives.
+-- What the tests of an append decide.
 pub mod Room
-pub mod Values

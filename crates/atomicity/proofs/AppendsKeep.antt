@@ -1,5 +1,6 @@
 -- The steps that make an entry keep what holds of a machine and its history: LOG of a cell without one in the current region, ACQUIRE and
 -- LOGREL.
+use Rattle.std.specs.Prelude.{None, Some}
 use Prim.Native.Nat.{ℕ, suc, ◌+◌, ◌-◌, ◌≤◌, ◌<◌}
 use native.Mathlib.Decide.{dec_lt, ℕ_discrete}
 use native.Mathlib.Omega.{arith}
@@ -21,22 +22,19 @@ use Rattle.undo.specs.Regions.{is_release, logged_of}
 use Rattle.append.specs.Append.{grown_tail, closed_by}
 use Rattle.event.specs.declared.Event.{Event}
 use Rattle.event.specs.declared.Event.TheVariants.{Empty, Store, Acquire, Release}
-use Rattle.undo.specs.declared.Found.TheVariants.{Nowhere}
 use Rattle.thread_log.specs.declared.Log.{Log}
 use Rattle.event.specs.declared.SyncCount.{SyncCount}
-use Rattle.tail.specs.declared.Releasing.TheVariants.{Nothing, Lock}
 use Rattle.undo.proofs.UndoInvariant.{UndoHolds, with_event, enter-holds}
 use Rattle.undo.proofs.LoggedLaws.{logged-nowhere}
 use Rattle.accesses.specs.Accesses.{logged_cell_of}
 use Rattle.machine.specs.Effects.{first_log_effect, acquire_effect, log_release_effect, effect}
 use Rattle.locks.specs.Locks.{no_lock}
 use Rattle.machine.specs.Holds.{lock_of}
-use Rattle.kinds.specs.Kinds.{LOG, ACQUIRE, LOGREL}
+use Rattle.kinds.specs.declared.Kind.TheVariants.{Log as LOG, Acquire as ACQUIRE, LogRel as LOGREL}
 use Rattle.accesses.specs.declared.Accesses.{Accesses}
 use Rattle.clocks.specs.declared.Clock.{Clock}
-use Rattle.locks.specs.declared.Holder.TheVariants.{Thread}
 use Rattle.locks.specs.declared.Lock.{Lock as LockState}
-use Rattle.machine.specs.declared.Machine.{Machine}
+use Rattle.machine.specs.State.{Machine}
 use Rattle.machine.specs.declared.Stepped.{Stepped}
 use Rattle.machine.proofs.AcceptedMeans.{LogAsked, log_asked, FirstLogAsked, first_log_asked, acquire_asked, log_release_asked}
 use Rattle.machine.proofs.LogCases.{log-first}
@@ -84,11 +82,11 @@ head_append {old} {new} appends other since within (at-acquire less begins) =
 
 -- what a new entry leaves of a lock: its holder and its counts; who holds it now held it, or acquired it just now
 record LockKept (thread : ℕ) (event : Event) (lock : ℕ) (was now : LockState) : Type 0 where
-  holder_kept : {other : ℕ} → was.holder ≡ Thread other → now.holder ≡ Thread other
+  holder_kept : {other : ℕ} → was.holder ≡ Some other → now.holder ≡ Some other
   count_same : now.count.0 ≡ was.count.0
   pruned_same : now.pruned.0 ≡ was.pruned.0
-  holder_cases : {other : ℕ} → now.holder ≡ Thread other →
-      (was.holder ≡ Thread other) ⊎ ((other ≡ thread) × (event ≡ Acquire lock (sync_count was.count.0)))
+  holder_cases : {other : ℕ} → now.holder ≡ Some other →
+      (was.holder ≡ Some other) ⊎ ((other ≡ thread) × (event ≡ Acquire lock (sync_count was.count.0)))
 
 -- a lock that is as it was
 same-lock : {thread : ℕ} {event : Event} {lock : ℕ} {state : LockState} → LockKept thread event lock state state
@@ -102,7 +100,7 @@ same-lock = record {
 -- what a step that makes an entry must show: its kind, what the entry says of its cell or its lock, and what it leaves of the locks
 record AppendStep (machine : Machine) (thread kind place : ℕ) (event : Event) (locks : List LockState) : Type 0 where
   not_release : kind ≢ 6
-  not_releasing : (log_at machine.logs thread).tail.releasing ≡ Nothing
+  not_releasing : (log_at machine.logs thread).tail.releasing ≡ None
   is_formed : Formed event
   is_step : kind ≡ step_kind_of event
   is_place : place ≡ place_of event
@@ -110,9 +108,9 @@ record AppendStep (machine : Machine) (thread kind place : ℕ) (event : Event) 
   is_acquire : kind ≡ 4 → event ≡ Acquire place (lock_of machine place).count
   acquire_has : {lock : ℕ} {count : SyncCount} → event ≡ Acquire lock count → count ≡ (lock_of machine lock).count
   release_has : {lock : ℕ} {count : SyncCount} → event ≡ Release lock count →
-      (count ≡ (lock_of machine lock).count) × ((lock_of machine lock).holder ≡ Thread thread)
+      (count ≡ (lock_of machine lock).count) × ((lock_of machine lock).holder ≡ Some thread)
   -- after the step the thread is releasing a lock only if the entry is a RELEASE of that lock with its count
-  closes : {lock : ℕ} → closed_by Nothing (closes_of event) ≡ Lock lock → event ≡ Release lock (lock_of machine lock).count
+  closes : {lock : ℕ} → closed_by None (closes_of event) ≡ Some lock → event ≡ Release lock (lock_of machine lock).count
   lock_kept : (lock : ℕ) → LockKept thread event lock (lock_of machine lock) (get_or locks lock no_lock)
 
 module _ {start : Beginning} {machine : Machine} {history : List Fed} {ghost : Ghost}
@@ -350,7 +348,7 @@ module _ {start : Beginning} {machine : Machine} {history : List Fed} {ghost : G
   machine-acquire fails =
       let asked = acquire_asked machine thread place value fails in
       let held : LockState =
-      record { holder = Thread thread; count = (lock_of machine place).count; pruned = (lock_of machine place).pruned } in
+      record { holder = Some thread; count = (lock_of machine place).count; pruned = (lock_of machine place).pruned } in
       let taken : LockKept thread acquire_entry place (lock_of machine place) held = record {
         holder_kept = λ was_held. cc;
         count_same = refl;
@@ -451,7 +449,7 @@ module _ {start : Beginning} {machine : Machine} {history : List Fed} {ghost : G
           true≢false (sym begins ∙ (none (log_at machine.logs thread).head.0 pruned (record { since = omega arith; below = less })).0)
 
   -- where the cell's entry is found nowhere, it has none in the thread's current region
-  pub nowhere-current : {number old : ℕ} → thread < thread_count → logged_of (log_at machine.logs thread) place ≡ Nowhere
+  pub nowhere-current : {number old : ℕ} → thread < thread_count → logged_of (log_at machine.logs thread) place ≡ None
       → Is (entries_of start machine ghost) thread number (Store place old) → NoBoundaryAfter (entries_of start machine ghost) thread number
       → ⊥
   nowhere-current {number} {old} in_range is_nowhere is none =
@@ -484,7 +482,7 @@ module _ {start : Beginning} {machine : Machine} {history : List Fed} {ghost : G
 
   -- the history, its places and the cell after a LOG of a cell without an entry in the current region; its value is 0
   module _ (follows : Follows machine history) (fails : AllFail (tests_of machine LOG thread place value))
-      (is_nowhere : logged_of (log_at machine.logs thread) place ≡ Nowhere) where
+      (is_nowhere : logged_of (log_at machine.logs thread) place ≡ None) where
     asked : LogAsked machine thread place value
     asked = log_asked machine thread place value fails
 

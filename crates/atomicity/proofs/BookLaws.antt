@@ -8,7 +8,7 @@ use mathlib.Core.Path.{◌≡◌, refl, sym, ap, ◌∙◌}
 use mathlib.Core.Bool.{Bool, true, false, cond, not, ◌&&◌}
 use mathlib.Core.List.{List, [], ◌∷◌, ◌++◌, map}
 use mathlib.Core.Logic.{◌⊎◌, inl, inr, ⊎_elim, by_cases}
-use mathlib.Core.Option.{Option, none, some}
+use Rattle.std.specs.Prelude.{Option, None, Some}
 use lib.Dec.{eqb}
 use lib.ListN.{length, get_or, set, length-append, length-map, length-set, get_or-append}
 use lib.Seq.{get_or-append_seam, get_or-set_same, get_or-set_other}
@@ -103,7 +103,7 @@ first_or_none test (region ∷ regions) = by-test (test region) refl (first_or_n
 
 -- the thread's open region is the first open one of its
 pub open_first : (thread : ℕ) (regions : List Region) (place from : ℕ) → First (is_open_of thread) regions place →
-    open_from thread regions from ≡ some (from + place)
+    open_from thread regions from ≡ Some (from + place)
 unfolding open_from
 open_first thread [] place from first = absurd (not-suc-le-zero first.in_range)
 open_first thread (region ∷ regions) zero from first = rw (first.holds, add-zero from)
@@ -111,7 +111,7 @@ open_first thread (region ∷ regions) (suc place) from first =
     rw (first.before 0 (omega arith), add-suc from place, ← suc-add from place)
     (open_first thread regions place (suc from) (first_rest first))
 
-pub open_none : (thread : ℕ) (regions : List Region) (from : ℕ) → NoneOf (is_open_of thread) regions → open_from thread regions from ≡ none
+pub open_none : (thread : ℕ) (regions : List Region) (from : ℕ) → NoneOf (is_open_of thread) regions → open_from thread regions from ≡ None
 unfolding open_from
 open_none thread [] from fails = refl
 open_none thread (region ∷ regions) from fails =
@@ -186,7 +186,7 @@ pub region_new : (regions : List Region) (region : Region) → region_at (region
 region_new regions region = get_or-append_seam regions region [] _
 
 -- a STORE under the thread's open region goes to the end of the list
-pub store_writes : (book : Book) (thread cell value : ℕ) {place : ℕ} → open_of book thread ≡ some place →
+pub store_writes : (book : Book) (thread cell value : ℕ) {place : ℕ} → open_of book thread ≡ Some place →
     (feed_store book thread cell value).writes ≡ book.writes ++ (record { cell = cell; value = value; region = place } ∷ [])
 store_writes book thread cell value is_open = rw is_open
 
@@ -194,8 +194,8 @@ pub store_regions : (book : Book) (thread cell value : ℕ) → (feed_store book
 store_regions book thread cell value = kept (open_of book thread)
   where
     kept : (opened : Option ℕ) → (write opened book cell value).regions ≡ book.regions
-    kept none = refl
-    kept (some place) = refl
+    kept None = refl
+    kept (Some place) = refl
 
 -- the cells with one store written, if its region is committed
 abbrev pub written_one : List Region → List ℕ → Write → List ℕ

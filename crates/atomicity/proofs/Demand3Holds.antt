@@ -1,6 +1,7 @@
 -- Demand 3 holds, and every lawful order of undoing ends in the same cells, a claimed one that is accepted too.
 -- The parts: `run_holds` (all concerns, for every list of steps from any beginning), `undoable` (what the image of a cut has), `recovers`
 -- and `any_order` (the undoing lemma), and `before-leads` with `leads_pruned` (committed regions are closed under happens-before).
+use Rattle.std.specs.Prelude.{Ok}
 use Prim.Native.Nat.{ℕ}
 use mathlib.Core.Path.{◌≡◌, sym, ap, ◌∙◌}
 use mathlib.Core.Bool.{true}
@@ -9,13 +10,12 @@ use lib.ListN.{length, take}
 use lib.Dec.{ltb}
 use borrow.Author.Tests.{eq-eqb, ltb-true, lt-ltb}
 use Rattle.answer.specs.Refusals.{unless, Outcome}
-use Rattle.answer.specs.declared.Answer.TheVariants.{Accepted}
 use Rattle.cache.specs.Cache.{cell_count}
 use Rattle.thread_log.specs.declared.Log.{Log}
 use Rattle.reader.specs.Stretch.{image_words}
 use Rattle.machine.specs.Image.{image_of, cut_of}
 use Rattle.machine.specs.Runs.{Step, after}
-use Rattle.machine.specs.declared.Machine.{Machine}
+use Rattle.machine.specs.State.{Machine}
 use Rattle.machine.proofs.Beginnings.{machine_with, AllIdle}
 use Rattle.machine.proofs.Counts.{Counted, effect-counted, begin-counted, after-counted}
 use Rattle.machine.proofs.StepLaws.{after-keeps}
@@ -58,7 +58,7 @@ closed_regions {start} {machine} {history} run_holds earlier later before is_com
 -- where all concerns hold, recovery accepts the image of a cut and finds the reference model's cells
 run_recovers : {start : Beginning} {machine : Machine} {history : List Fed} → RunInvariant start machine history → Counted machine
     → length start.cells ≡ cell_count → (buffer : List ℕ) → length buffer ≡ cell_count
-    → ((recover_of (image_of machine) buffer).answer ≡ Accepted 0)
+    → ((recover_of (image_of machine) buffer).answer ≡ Ok 0)
     × ((recover_of (image_of machine) buffer).buffer ≡ cells_of (book_of start history))
 run_recovers {start} {machine} {history} run_holds counted is_length buffer is_buffer =
     recovers
@@ -73,14 +73,14 @@ run_recovers {start} {machine} {history} run_holds counted is_length buffer is_b
 
 -- over a lent buffer of 1,156 words the cut writes its image
 pub cut-writes : (machine : Machine) (image : List ℕ) → length image ≡ image_words
-    → cut_of machine image ≡ record { answer = Accepted 0; buffer = image_of machine }
+    → cut_of machine image ≡ record { answer = Ok 0; buffer = image_of machine }
 unfolding cut_of unless
 cut-writes machine image is_image = rw (eq-eqb (length image) image_words is_image)
 
 -- from any beginning every list of steps recovers to the reference model's cells, with the beginning's cells as the start cells
 pub begin_recovers : (cells : List ℕ) (logs : List Log) → length cells ≡ cell_count → AllIdle logs → (steps : List Step) (buffer : List ℕ)
     → length buffer ≡ cell_count
-    → ((recover_of (image_of (after (machine_with cells logs) steps)) buffer).answer ≡ Accepted 0)
+    → ((recover_of (image_of (after (machine_with cells logs) steps)) buffer).answer ≡ Ok 0)
     × ((recover_of (image_of (after (machine_with cells logs) steps)) buffer).buffer
     ≡ cells_of (fed_book (empty_book cells) (history_of (machine_with cells logs) steps)))
 begin_recovers cells logs is_length all steps buffer is_buffer =

@@ -7,7 +7,7 @@ use mathlib.Core.List.{List}
 use Rattle.sizes.specs.Sizes.{thread_count}
 use Rattle.clocks.specs.Clocks.{clock_at}
 use Rattle.machine.specs.Holds.{clock_of}
-use Rattle.machine.specs.declared.Machine.{Machine}
+use Rattle.machine.specs.State.{Machine}
 use Rattle.machine.proofs.Sizes.{Sized}
 use Rattle.atomicity.specs.History.{Fed, step_at}
 use Rattle.atomicity.proofs.Ordered.{own-reaches}

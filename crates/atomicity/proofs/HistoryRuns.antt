@@ -4,19 +4,22 @@ use Prim.Native.Nat.{ℕ, ◌<◌}
 use mathlib.Core.Path.{◌≡◌, refl, ◌∙◌, ap}
 use mathlib.Core.Bool.{Bool, true, false, cond}
 use mathlib.Core.List.{List, [], ◌∷◌, ◌++◌, append_assoc, append-nil}
-use mathlib.Core.Option.{Option, some}
-use native.Mathlib.Omega.{arith}
+use Rattle.std.specs.Prelude.{Option, Some}
 use lib.Dec.{eqb}
 use borrow.Author.Tests.{ltb-true, eqb-true, not-false}
 use Rattle.sizes.specs.Sizes.{thread_count}
 use Rattle.answer.specs.Answer.{is_accepted}
 use Rattle.answer.proofs.RefusalLaws.{AllFail, all_fail_right}
 use Rattle.machine.specs.Effects.{effect}
-use Rattle.kinds.specs.Kinds.{Kind, LOAD, LOG, STORE, ACQUIRE, LOGREL, RELEASE, FLUSH, FLUSHLOG, FENCE, PRUNE, EVICTLOG}
-use Rattle.kinds.specs.Kinds.{EVICTCELL, EVICTWORDS, kind_of, fields_of, is_over, count_tests, input_tests}
+use Rattle.std.proofs.lemmas.Option.{none-some}
+use Rattle.kinds.specs.Kinds.{kind_of, fields_of, is_over, count_tests, input_tests}
+use Rattle.kinds.specs.declared.Kind.{Kind}
+use Rattle.kinds.specs.declared.Kind.TheVariants.{Load as LOAD, Log as LOG, Store as STORE, Acquire as ACQUIRE, LogRel as LOGREL}
+use Rattle.kinds.specs.declared.Kind.TheVariants.{Release as RELEASE, Flush as FLUSH, FlushLog as FLUSHLOG, Fence as FENCE, Prune as PRUNE}
+use Rattle.kinds.specs.declared.Kind.TheVariants.{EvictLog as EVICTLOG, EvictCell as EVICTCELL, EvictWords as EVICTWORDS}
 use Rattle.machine.specs.Refusals.{state_tests}
 use Rattle.machine.specs.Runs.{Step, step_with, after}
-use Rattle.machine.specs.declared.Machine.{Machine}
+use Rattle.machine.specs.State.{Machine}
 use Rattle.machine.proofs.StepLaws.{tests_of, step-cases, effect-accepted}
 use Rattle.atomicity.specs.History.{Fed, fed_with, history_of}
 use Rattle.atomicity.proofs.Ordered.{and_then}
@@ -38,7 +41,7 @@ kind_number EVICTCELL = 13
 kind_number EVICTWORDS = 14
 
 -- a number that has a kind is that kind's
-pub kind-number : (number : ℕ) (kind : Kind) → kind_of number ≡ some kind → number ≡ kind_number kind
+pub kind-number : (number : ℕ) (kind : Kind) → kind_of number ≡ Some kind → number ≡ kind_number kind
 unfolding kind_of
 kind-number number kind is_kind =
     pick LOAD (pick LOG
@@ -48,13 +51,13 @@ kind-number number kind is_kind =
     (pick FLUSH (pick FLUSHLOG
     (pick FENCE (pick PRUNE
     (pick EVICTLOG
-    (pick EVICTCELL (pick EVICTWORDS (λ is_none. let never : ◌≡◌ {A = ℕ} 0 1 = cc in absurd (omega arith)))))))))))))) is_kind
+    (pick EVICTCELL (pick EVICTWORDS (λ is_none. absurd (none-some kind is_none)))))))))))))) is_kind
   where
-    pick : (found : Kind) {rest : Option Kind} → (rest ≡ some kind → number ≡ kind_number kind) →
-        cond (eqb number (kind_number found)) (some found) rest ≡ some kind → number ≡ kind_number kind
+    pick : (found : Kind) {rest : Option Kind} → (rest ≡ Some kind → number ≡ kind_number kind) →
+        cond (eqb number (kind_number found)) (Some found) rest ≡ Some kind → number ≡ kind_number kind
     pick found {rest} other is_kind = by-test (eqb number (kind_number found)) refl is_kind
       where
-        by-test : (test : Bool) → eqb number (kind_number found) ≡ test → cond test (some found) rest ≡ some kind → number ≡ kind_number kind
+        by-test : (test : Bool) → eqb number (kind_number found) ≡ test → cond test (Some found) rest ≡ Some kind → number ≡ kind_number kind
         by-test true is_found is_kind =
             let same_kind : found ≡ kind = cc in eqb-true number (kind_number found) is_found ∙ ap kind_number same_kind
         by-test false is_else is_kind = other is_kind
@@ -91,7 +94,7 @@ module _ (P : Machine → List Fed → Type 0)
       step-cases
       machine
       (λ stepped. P stepped.machine (and_then history (fed_with step (is_accepted stepped.answer))))
-      (λ answer is_refusal. on_refusal machine history holds (fed_with step (is_accepted answer)) is_refusal)
+      (λ refusal. on_refusal machine history holds (fed_with step false) refl)
       step.kind
       step.thread
       step.place

@@ -1,4 +1,5 @@
 -- Who holds a lock knows what the lock's clock knows, and a thread releases only a lock that it holds.
+use Rattle.std.specs.Prelude.{None, Option, Some}
 use Prim.Native.Nat.{ℕ, ◌<◌, ◌≤◌}
 use mathlib.Core.Path.{◌≡◌, refl, ◌∙◌, ap}
 use mathlib.Core.Bool.{false, true, false≢true}
@@ -12,63 +13,53 @@ use borrow.Author.Tests.{eqb-true}
 use Rattle.sizes.specs.Sizes.{thread_count, lock_count}
 use Rattle.tail.specs.Tail.{is_releasing_lock}
 use Rattle.thread_log.specs.declared.Log.{Log}
-use Rattle.tail.specs.declared.Releasing.{Releasing}
-use Rattle.tail.specs.declared.Releasing.TheVariants.{Nothing, Lock as ReleasingLock}
 use Rattle.clocks.specs.Clocks.{clock_at, join_of, raised_of, no_clock}
 use Rattle.machine.specs.Holds.{no_log}
 use Rattle.locks.specs.Locks.{no_lock, is_held, is_held_by}
 use Rattle.machine.proofs.AcceptedMeans.{held-by_nobody}
 use Rattle.machine.proofs.Beginnings.{AllIdle, releases-nothing}
 use Rattle.clocks.specs.declared.Clock.{Clock}
-use Rattle.locks.specs.declared.Holder.{Holder}
-use Rattle.locks.specs.declared.Holder.TheVariants.{Nobody, Thread}
 use Rattle.locks.specs.declared.Lock.{Lock}
 use Rattle.answer.proofs.ListCases.{set_cases, replicate_cases}
 use Rattle.clocks.proofs.ClockLaws.{clock_at-join, clock_at-raised-other, clock_at-raised-own}
+use Rattle.atomicity.proofs.Locks.{never-both}
 use Rattle.atomicity.proofs.ClockInvariant.{numbers_of}
 
 -- the lock that a thread is releasing, and the holder of a lock
-abbrev pub releasing_of : List Log → ℕ → Releasing
+abbrev pub releasing_of : List Log → ℕ → Option ℕ
 releasing_of logs thread = (get_or logs thread no_log).tail.releasing
 
-abbrev pub holder_of : List Lock → ℕ → Holder
+abbrev pub holder_of : List Lock → ℕ → Option ℕ
 holder_of locks lock = (get_or locks lock no_lock).holder
 
 -- what the holders and the closing threads say of the clocks
 pub record Held (logs : List Log) (locks : List Lock) (clocks lock_clocks : List Clock) : Type 0 where
-  pub knows_lock : (lock thread : ℕ) → holder_of locks lock ≡ Thread thread → (other : ℕ) →
+  pub knows_lock : (lock thread : ℕ) → holder_of locks lock ≡ Some thread → (other : ℕ) →
       numbers_of lock_clocks lock other ≤ numbers_of clocks thread other
-  pub releases_held : (thread lock : ℕ) → releasing_of logs thread ≡ ReleasingLock lock → holder_of locks lock ≡ Thread thread
-
--- two variants are not one
-pub nobody_holds : {A : Type 0} {holder : Holder} {thread : ℕ} → holder ≡ Nobody → holder ≡ Thread thread → A
-nobody_holds is_nobody is_thread = let never : ◌≡◌ {A = ℕ} 0 1 = cc in absurd (omega arith)
-
-pub nothing_released : {A : Type 0} {releasing : Releasing} {lock : ℕ} → releasing ≡ Nothing → releasing ≡ ReleasingLock lock → A
-nothing_released is_nothing is_lock = let never : ◌≡◌ {A = ℕ} 0 1 = cc in absurd (omega arith)
+  pub releases_held : (thread lock : ℕ) → releasing_of logs thread ≡ Some lock → holder_of locks lock ≡ Some thread
 
 -- what the tests on a holder and on a closing thread tell
-pub releasing_lock : (releasing : Releasing) (lock : ℕ) → is_releasing_lock releasing lock ≡ true → releasing ≡ ReleasingLock lock
-releasing_lock Nothing lock is_releasing = absurd (false≢true is_releasing)
-releasing_lock (ReleasingLock held) lock is_releasing = ap ReleasingLock (eqb-true held lock is_releasing)
+pub releasing_lock : (releasing : Option ℕ) (lock : ℕ) → is_releasing_lock releasing lock ≡ true → releasing ≡ Some lock
+releasing_lock None lock is_releasing = absurd (false≢true is_releasing)
+releasing_lock (Some held) lock is_releasing = ap Some (eqb-true held lock is_releasing)
 
-pub held_by : (holder : Holder) (thread : ℕ) → is_held_by holder thread ≡ true → holder ≡ Thread thread
-held_by Nobody thread is_held = absurd (false≢true is_held)
-held_by (Thread holder) thread is_held = ap Thread (eqb-true holder thread is_held)
+pub held_by : (holder : Option ℕ) (thread : ℕ) → is_held_by holder thread ≡ true → holder ≡ Some thread
+held_by None thread is_held = absurd (false≢true is_held)
+held_by (Some holder) thread is_held = ap Some (eqb-true holder thread is_held)
 
 -- at a beginning nothing is held
 pub begin_held : (logs : List Log) → AllIdle logs → (clocks lock_clocks : List Clock) →
     Held logs (replicate lock_count no_lock) clocks lock_clocks
 begin_held logs all clocks lock_clocks = record {
   knows_lock = λ lock thread is_holder.
-      nobody_holds (replicate_cases (λ free. free.holder ≡ Nobody) lock_count lock no_lock no_lock refl refl) is_holder;
-  releases_held = λ thread lock is_releasing. nothing_released (releases-nothing logs all thread) is_releasing;
+      never-both (replicate_cases (λ free. free.holder ≡ None) lock_count lock no_lock no_lock refl refl) is_holder;
+  releases_held = λ thread lock is_releasing. never-both (releases-nothing logs all thread) is_releasing;
 }
 
 module _ (logs : List Log) (locks : List Lock) (clocks lock_clocks : List Clock) (held : Held logs locks clocks lock_clocks) where
   -- another log of a thread keeps what holders and closing threads say of the clocks, if the thread holds the lock that it releases
   pub held-log : (thread : ℕ) (log : Log) → thread < length logs →
-      ((lock : ℕ) → log.tail.releasing ≡ ReleasingLock lock → holder_of locks lock ≡ Thread thread) →
+      ((lock : ℕ) → log.tail.releasing ≡ Some lock → holder_of locks lock ≡ Some thread) →
       Held (set logs thread log) locks clocks lock_clocks
   held-log thread log inside releases = record {
     knows_lock = held.knows_lock;
@@ -79,7 +70,7 @@ module _ (logs : List Log) (locks : List Lock) (clocks lock_clocks : List Clock)
         log
         no_log
         inside
-        (λ other log. log.tail.releasing ≡ ReleasingLock lock → holder_of locks lock ≡ Thread other)
+        (λ other log. log.tail.releasing ≡ Some lock → holder_of locks lock ≡ Some other)
         (releases lock)
         (λ other differs. held.releases_held other lock)
         other;
@@ -102,7 +93,7 @@ module _ (logs : List Log) (locks : List Lock) (clocks lock_clocks : List Clock)
 
   -- a thread that takes a free lock and joins its clock knows what the lock does
   pub held-acquire : (thread lock : ℕ) (state : Lock) → thread < length clocks → lock < length locks →
-      state.holder ≡ Thread thread → is_held (holder_of locks lock) ≡ false →
+      state.holder ≡ Some thread → is_held (holder_of locks lock) ≡ false →
       Held logs (set locks lock state) (set clocks thread (join_of (get_or clocks thread no_clock) (get_or lock_clocks lock no_clock))) lock_clocks
   held-acquire thread lock state inside_clocks inside_locks is_holder is_free = record {
     knows_lock =
@@ -112,7 +103,7 @@ module _ (logs : List Log) (locks : List Lock) (clocks lock_clocks : List Clock)
         state
         no_lock
         inside_locks
-        (λ other state. (owner : ℕ) → state.holder ≡ Thread owner → (number : ℕ) →
+        (λ other state. (owner : ℕ) → state.holder ≡ Some owner → (number : ℕ) →
         numbers_of lock_clocks other number ≤ numbers_of joined_clocks owner number)
         (λ owner is_owner number.
         let same_thread : owner ≡ thread = cc in
@@ -125,8 +116,8 @@ module _ (logs : List Log) (locks : List Lock) (clocks lock_clocks : List Clock)
         state
         no_lock
         inside_locks
-        (λ other state. holder_of locks other ≡ Thread owner → state.holder ≡ Thread owner)
-        (λ was_held. nobody_holds (held-by_nobody (holder_of locks lock) is_free) was_held)
+        (λ other state. holder_of locks other ≡ Some owner → state.holder ≡ Some owner)
+        (λ was_held. never-both (held-by_nobody (holder_of locks lock) is_free) was_held)
         (λ other differs was_held. was_held)
         other
         (held.releases_held owner other is_releasing);
@@ -153,8 +144,8 @@ module _ (logs : List Log) (locks : List Lock) (clocks lock_clocks : List Clock)
 
   -- a thread that releases a lock gives it up, and only its own number rises
   pub held-release : (thread lock : ℕ) (log : Log) (state : Lock) (clock : Clock) → thread < length clocks →
-      thread < length logs → lock < length locks → thread < thread_count → log.tail.releasing ≡ Nothing →
-      state.holder ≡ Nobody → holder_of locks lock ≡ Thread thread →
+      thread < length logs → lock < length locks → thread < thread_count → log.tail.releasing ≡ None →
+      state.holder ≡ None → holder_of locks lock ≡ Some thread →
       Held (set logs thread log) (set locks lock state)
       (set clocks thread (raised_of (get_or clocks thread no_clock) thread)) (set lock_clocks lock clock)
   held-release thread lock log state clock inside_clocks inside_logs inside_locks in_range is_nothing is_nobody was_held = record {
@@ -165,9 +156,9 @@ module _ (logs : List Log) (locks : List Lock) (clocks lock_clocks : List Clock)
         state
         no_lock
         inside_locks
-        (λ other state. state.holder ≡ Thread owner → (number : ℕ) →
+        (λ other state. state.holder ≡ Some owner → (number : ℕ) →
         numbers_of (set lock_clocks lock clock) other number ≤ numbers_of raised_clocks owner number)
-        (λ is_owner. nobody_holds is_nobody is_owner)
+        (λ is_owner. never-both is_nobody is_owner)
         (λ other differs is_owner number.
         rw (get_or-set_other lock_clocks lock other clock no_clock differs)
         (omega (arith, held.knows_lock other owner is_owner number, grown owner number)))
@@ -179,8 +170,8 @@ module _ (logs : List Log) (locks : List Lock) (clocks lock_clocks : List Clock)
         log
         no_log
         inside_logs
-        (λ owner log. log.tail.releasing ≡ ReleasingLock other → holder_of (set locks lock state) other ≡ Thread owner)
-        (λ is_releasing. nothing_released is_nothing is_releasing)
+        (λ owner log. log.tail.releasing ≡ Some other → holder_of (set locks lock state) other ≡ Some owner)
+        (λ is_releasing. never-both is_nothing is_releasing)
         (λ owner differs is_releasing.
         let was_owner = held.releases_held owner other is_releasing in
         ap (λ (state : Lock). state.holder) (get_or-set_other locks lock other state no_lock (is_else owner other differs was_owner)) ∙
@@ -194,9 +185,9 @@ module _ (logs : List Log) (locks : List Lock) (clocks lock_clocks : List Clock)
       raised_clocks : List Clock
       raised_clocks = set clocks thread raised
 
-      is_else : (owner other : ℕ) → owner ≢ thread → holder_of locks other ≡ Thread owner → other ≢ lock
+      is_else : (owner other : ℕ) → owner ≢ thread → holder_of locks other ≡ Some owner → other ≢ lock
       is_else owner other differs is_owner same =
-          let is_owned : holder_of locks lock ≡ Thread owner = rw same at is_owner in
+          let is_owned : holder_of locks lock ≡ Some owner = rw same at is_owner in
           differs (cc)
 
       raised-number : (number : ℕ) → numbers_of clocks thread number ≤ clock_at raised number

@@ -1,33 +1,31 @@
 -- What the locks, the entries and the heads have to do with each other.
 -- A RELEASE entry whose step was taken is durable; each RELEASE of a lock with a smaller count was made before each ACQUIRE with a larger
 -- one; a pruned ACQUIRE's smaller RELEASEs are pruned. Each kind of step keeps all of it.
+use Rattle.std.specs.Prelude.{None, Option, Some}
 use Prim.Native.Nat.{ℕ, suc, ◌+◌, ◌-◌, ◌≤◌, ◌<◌}
 use native.Mathlib.Decide.{dec_lt, ℕ_discrete}
 use native.Mathlib.Omega.{arith}
 use mathlib.Core.Path.{◌≡◌, sym, ap, ◌∙◌, subst}
 use mathlib.Core.Logic.{◌⊎◌, inl, inr, ⊎_elim, by_cases}
+use Rattle.std.proofs.lemmas.Option.{none-some}
 use Rattle.event.specs.Events.{sync_count}
 use Rattle.event.specs.declared.Event.{Event}
 use Rattle.event.specs.declared.Event.TheVariants.{Acquire, Release}
-use Rattle.tail.specs.declared.Releasing.{Releasing}
-use Rattle.tail.specs.declared.Releasing.TheVariants.{Nothing, Lock}
-use Rattle.locks.specs.declared.Holder.{Holder}
-use Rattle.locks.specs.declared.Holder.TheVariants.{Nobody, Thread}
 use Rattle.atomicity.proofs.Logged.{Entries, Made, IsReleaseOf, IsAcquireOf, Keeps, Appends, still-is, kept-is, new_is}
 use Rattle.atomicity.proofs.Logged.{is-cases}
 
 -- which lock each thread is releasing; each lock's holder, count, and pruned RELEASEs
 pub record Locks : Type 0 where
-  pub releasing : ℕ → Releasing
-  pub holder : ℕ → Holder
+  pub releasing : ℕ → Option ℕ
+  pub holder : ℕ → Option ℕ
   pub count : ℕ → ℕ
   pub pruned : ℕ → ℕ
 
 -- the RELEASE entry is its thread's last one, and its step was not taken yet
 pub record Waits (entries : Entries) (locks : Locks) (thread number lock count : ℕ) : Type 0 where
   pub is_count : count ≡ locks.count lock
-  pub is_held : locks.holder lock ≡ Thread thread
-  pub is_releasing : locks.releasing thread ≡ Lock lock
+  pub is_held : locks.holder lock ≡ Some thread
+  pub is_releasing : locks.releasing thread ≡ Some lock
   pub is_last : suc number ≡ entries.next thread
 
 pub record LocksHold (entries : Entries) (locks : Locks) : Type 0 where
@@ -41,10 +39,10 @@ pub record LocksHold (entries : Entries) (locks : Locks) : Type 0 where
   pub in_time : {thread number other later lock count larger : ℕ} → IsReleaseOf entries thread number lock count →
       IsAcquireOf entries other later lock larger → count < larger →
       entries.time thread number < entries.time other later
-  pub held : {thread lock : ℕ} → locks.holder lock ≡ Thread thread →
+  pub held : {thread lock : ℕ} → locks.holder lock ≡ Some thread →
       (number : ℕ) × IsAcquireOf entries thread number lock (locks.count lock)
-  pub held_while : {thread lock : ℕ} → locks.releasing thread ≡ Lock lock → locks.holder lock ≡ Thread thread
-  pub last_while : {thread lock : ℕ} → locks.releasing thread ≡ Lock lock →
+  pub held_while : {thread lock : ℕ} → locks.releasing thread ≡ Some lock → locks.holder lock ≡ Some thread
+  pub last_while : {thread lock : ℕ} → locks.releasing thread ≡ Some lock →
       (number : ℕ) × (suc number ≡ entries.next thread) × IsReleaseOf entries thread number lock (locks.count lock)
   -- one RELEASE a lock and count
   pub unique : {thread number other another lock count : ℕ} → IsReleaseOf entries thread number lock count →
@@ -79,12 +77,9 @@ durable_before holds release acquire smaller =
     let bound = holds.acquire_count acquire in
     holds.durable release (omega arith)
 
--- nobody is not a thread, and releasing nothing is not releasing a lock
-nobody_holds : {A : Type 0} {holder : Holder} {thread : ℕ} → holder ≡ Nobody → holder ≡ Thread thread → A
-nobody_holds nobody somebody = let never : ◌≡◌ {A = ℕ} 0 1 = cc in absurd (omega arith)
-
-releases-nothing : {A : Type 0} {releasing : Releasing} {lock : ℕ} → releasing ≡ Nothing → releasing ≡ Lock lock → A
-releases-nothing nothing something = let never : ◌≡◌ {A = ℕ} 0 1 = cc in absurd (omega arith)
+-- none is not some: nobody is not a thread, and releasing nothing is not releasing a lock
+pub never-both : {A : Type 0} {found : Option ℕ} {value : ℕ} → found ≡ None → found ≡ Some value → A
+never-both {value = value} is_none is_value = absurd (none-some value (sym is_none ∙ is_value))
 
 -- the locks' parts are the same
 pub record SameLocks (old new : Locks) : Type 0 where
@@ -147,29 +142,29 @@ pub record AppendLocks (old new : Entries) (now thread : ℕ) (event : Event) (l
   pub appends : Appends old new now thread event
   pub past : (other number : ℕ) → Made old other number → old.time other number < now
   pub head_next : old.head thread ≤ old.next thread
-  pub not_releasing : locks.releasing thread ≡ Nothing
+  pub not_releasing : locks.releasing thread ≡ None
   pub releasing_other : (other : ℕ) → (other ≡ thread → ⊥) → after.releasing other ≡ locks.releasing other
-  pub holder_kept : {other lock : ℕ} → locks.holder lock ≡ Thread other → after.holder lock ≡ Thread other
+  pub holder_kept : {other lock : ℕ} → locks.holder lock ≡ Some other → after.holder lock ≡ Some other
   pub count_same : (lock : ℕ) → after.count lock ≡ locks.count lock
   pub pruned_same : (lock : ℕ) → after.pruned lock ≡ locks.pruned lock
   -- a RELEASE has the count of a lock that the thread holds, and the thread then releases it
   pub release_count : {lock count : ℕ} → event ≡ Release lock (sync_count count) → count ≡ locks.count lock
-  pub release_held : {lock count : ℕ} → event ≡ Release lock (sync_count count) → locks.holder lock ≡ Thread thread
-  pub release_waits : {lock count : ℕ} → event ≡ Release lock (sync_count count) → after.releasing thread ≡ Lock lock
+  pub release_held : {lock count : ℕ} → event ≡ Release lock (sync_count count) → locks.holder lock ≡ Some thread
+  pub release_waits : {lock count : ℕ} → event ≡ Release lock (sync_count count) → after.releasing thread ≡ Some lock
   -- an ACQUIRE has the lock's count
   pub acquire_has : {lock count : ℕ} → event ≡ Acquire lock (sync_count count) → count ≡ locks.count lock
   -- who holds a lock now held it, or acquired it just now
-  pub holder_cases : {other lock : ℕ} → after.holder lock ≡ Thread other →
-      (locks.holder lock ≡ Thread other) ⊎ ((other ≡ thread) × (event ≡ Acquire lock (sync_count (locks.count lock))))
+  pub holder_cases : {other lock : ℕ} → after.holder lock ≡ Some other →
+      (locks.holder lock ≡ Some other) ⊎ ((other ≡ thread) × (event ≡ Acquire lock (sync_count (locks.count lock))))
   -- after the append the thread is releasing a lock only if the event is a RELEASE of that lock with its count
-  pub releasing_new : {lock : ℕ} → after.releasing thread ≡ Lock lock → event ≡ Release lock (sync_count (locks.count lock))
+  pub releasing_new : {lock : ℕ} → after.releasing thread ≡ Some lock → event ≡ Release lock (sync_count (locks.count lock))
 
 module _ {old new : Entries} {now thread : ℕ} {event : Event} {locks after : Locks}
     (step : AppendLocks old new now thread event locks after) (holds : LocksHold old locks) where
   -- a lock that another thread releases stays so
   waits_kept : {other number lock count : ℕ} → Waits old locks other number lock count → Waits new after other number lock count
   waits_kept {other} {number} {lock} {count} waits =
-      let differs : other ≡ thread → ⊥ = λ same. releases-nothing step.not_releasing (rw same at waits.is_releasing) in
+      let differs : other ≡ thread → ⊥ = λ same. never-both step.not_releasing (rw same at waits.is_releasing) in
       record {
         is_count = waits.is_count ∙ sym (step.count_same lock);
         is_held = step.holder_kept waits.is_held;
@@ -187,7 +182,7 @@ module _ {old new : Entries} {now thread : ℕ} {event : Event} {locks after : L
       let one = waits.is_held in
       let another = step.release_held says in
       let same : other ≡ thread = cc in
-      releases-nothing step.not_releasing (rw same at waits.is_releasing))
+      never-both step.not_releasing (rw same at waits.is_releasing))
       (holds.state release)
 
   pub locks-append : LocksHold new after
@@ -319,11 +314,11 @@ module _ {old new : Entries} {now thread : ℕ} {event : Event} {locks after : L
 -- what a RELEASE step asks and does
 pub record ReleaseLocks (old new : Entries) (now thread lock : ℕ) (locks after : Locks) : Type 0 where
   pub keeps : Keeps old new now
-  pub is_releasing : locks.releasing thread ≡ Lock lock
+  pub is_releasing : locks.releasing thread ≡ Some lock
   pub last_durable : old.next thread ≤ suc (old.durable thread)
-  pub releasing_self : after.releasing thread ≡ Nothing
+  pub releasing_self : after.releasing thread ≡ None
   pub releasing_other : (other : ℕ) → (other ≡ thread → ⊥) → after.releasing other ≡ locks.releasing other
-  pub holder_self : after.holder lock ≡ Nobody
+  pub holder_self : after.holder lock ≡ None
   pub holder_other : (other : ℕ) → (other ≡ lock → ⊥) → after.holder other ≡ locks.holder other
   pub count_self : after.count lock ≡ suc (locks.count lock)
   pub count_other : (other : ℕ) → (other ≡ lock → ⊥) → after.count other ≡ locks.count other
@@ -338,7 +333,7 @@ module _ {old new : Entries} {now thread lock : ℕ} {locks after : Locks}
       (λ differs. rw (step.count_other other differs) (omega arith))
 
   -- a thread that releases a lock releases this one only if it is this thread
-  same-thread : {other : ℕ} → locks.holder lock ≡ Thread other → other ≡ thread
+  same-thread : {other : ℕ} → locks.holder lock ≡ Some other → other ≡ thread
   same-thread is_held =
       let held = holds.held_while step.is_releasing in
       cc
@@ -359,12 +354,12 @@ module _ {old new : Entries} {now thread lock : ℕ} {locks after : Locks}
       }
 
   -- a lock that a thread still releases is another one
-  still-releasing : {other another : ℕ} → after.releasing other ≡ Lock another →
-      (locks.releasing other ≡ Lock another) × (another ≡ lock → ⊥)
+  still-releasing : {other another : ℕ} → after.releasing other ≡ Some another →
+      (locks.releasing other ≡ Some another) × (another ≡ lock → ⊥)
   still-releasing {other} {another} is_releasing =
       by_cases
       (ℕ_discrete other thread)
-      (λ same. releases-nothing step.releasing_self (rw same at is_releasing))
+      (λ same. never-both step.releasing_self (rw same at is_releasing))
       (λ differs.
       let before = sym (step.releasing_other other differs) ∙ is_releasing in
       (before, λ same. differs (same-thread (rw same at (holds.held_while before)))))
@@ -415,7 +410,7 @@ module _ {old new : Entries} {now thread lock : ℕ} {locks after : Locks}
     held = λ {thread = other} {lock = another} is_held.
         by_cases
         (ℕ_discrete another lock)
-        (λ same. nobody_holds step.holder_self (rw same at is_held))
+        (λ same. never-both step.holder_self (rw same at is_held))
         (λ differs.
         let found = holds.held (sym (step.holder_other another differs) ∙ is_held) in
         (found.0, rw (step.count_other another differs) (still-is step.keeps.grows found.1)));
@@ -453,7 +448,7 @@ pub record PruneLocks (old new : Entries) (now thread size : ℕ) (locks after :
       IsAcquireOf old thread number lock count → number ≡ old.head thread
   pub awaited : {lock count : ℕ} → IsAcquireOf old thread (old.head thread) lock count → count ≤ locks.pruned lock
   -- the region is finished
-  pub finished : (old.head thread + size < old.next thread) ⊎ (locks.releasing thread ≡ Nothing)
+  pub finished : (old.head thread + size < old.next thread) ⊎ (locks.releasing thread ≡ None)
   pub pruned_cases : ((lock count : ℕ) × EndsInRelease old thread (old.head thread + size - 1) lock count locks after) ⊎
       ((lock : ℕ) → after.pruned lock ≡ locks.pruned lock)
 
@@ -479,7 +474,7 @@ module _ {old new : Entries} {now thread size : ℕ} {locks after : Locks}
       (λ waits.
       ⊎_elim
       (λ more. let is_last = waits.is_last in absurd (omega arith))
-      (λ nothing. releases-nothing nothing waits.is_releasing)
+      (λ nothing. never-both nothing waits.is_releasing)
       step.finished)
       (holds.state release) in
       by_cases

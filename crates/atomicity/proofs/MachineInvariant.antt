@@ -15,7 +15,7 @@ use Rattle.undo.specs.Regions.{is_acquire, is_release}
 use Rattle.event.specs.declared.Event.{Event}
 use Rattle.undo.proofs.UndoInvariant.{UndoHolds}
 use Rattle.machine.specs.Holds.{lock_of}
-use Rattle.machine.specs.declared.Machine.{Machine}
+use Rattle.machine.specs.State.{Machine}
 use Rattle.machine.proofs.Sizes.{Sized}
 use Rattle.atomicity.specs.History.{Fed}
 use Rattle.atomicity.proofs.Logged.{Entries, Keeps, kept-is}

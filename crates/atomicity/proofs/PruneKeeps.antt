@@ -1,4 +1,5 @@
 -- PRUNE keeps what holds of a machine and its history.
+use Rattle.std.specs.Prelude.{None}
 use Prim.Native.Nat.{ℕ, suc, ◌+◌, ◌-◌, ◌≤◌, ◌<◌}
 use native.Mathlib.Decide.{dec_lt, ℕ_discrete}
 use native.Mathlib.Omega.{arith}
@@ -22,16 +23,15 @@ use Rattle.event.specs.declared.Event.{Event}
 use Rattle.event.specs.declared.Event.TheVariants.{Empty, Store, Acquire, Release}
 use Rattle.thread_log.specs.declared.Log.{Log}
 use Rattle.event.specs.declared.SyncCount.{SyncCount}
-use Rattle.tail.specs.declared.Releasing.TheVariants.{Nothing}
 use Rattle.undo.proofs.UndoInvariant.{UndoHolds, prune-holds}
 use Rattle.undo.proofs.RegionLaws.{RegionIs, live-event, oldest-region}
 use Rattle.machine.specs.Effects.{prune_effect, count_pruned, effect}
 use Rattle.locks.specs.Locks.{no_lock}
 use Rattle.machine.specs.Holds.{lock_of, with_log}
-use Rattle.kinds.specs.Kinds.{PRUNE}
+use Rattle.kinds.specs.declared.Kind.TheVariants.{Prune as PRUNE}
 use Rattle.prune.specs.Pruning.{awaits_release, logs_undurable}
 use Rattle.locks.specs.declared.Lock.{Lock as LockState}
-use Rattle.machine.specs.declared.Machine.{Machine}
+use Rattle.machine.specs.State.{Machine}
 use Rattle.machine.proofs.AcceptedMeans.{releases-nothing, PruneAsked, prune_asked}
 use Rattle.machine.proofs.StepLaws.{tests_of}
 use Rattle.atomicity.specs.History.{Fed}
@@ -248,7 +248,7 @@ module _ {start : Beginning} {machine : Machine} {history : List Fed} {ghost : G
       live-event log (ghost.event thread) holds 0 log.head.0 (omega arith) acquire.made.below ∙ acquire.says in
       ltb-false (lock_of machine lock).pruned.0 count (ap (awaits_release machine.locks) (sym said) ∙ asked.awaits_nothing)
 
-  finished-region : (log.head.0 + size < log.tail.next.0) ⊎ (log.tail.releasing ≡ Nothing)
+  finished-region : (log.head.0 + size < log.tail.next.0) ⊎ (log.tail.releasing ≡ None)
   finished-region =
       ⊎_elim
       (λ more. inl (omega arith))

@@ -1,5 +1,6 @@
 -- The steps that make no entry and move no head keep what holds of a machine and its history: refused steps, LOAD, STORE, FLUSH, FLUSHLOG,
 -- FENCE, the three evictions, and LOG of a cell that has an entry already.
+use Rattle.std.specs.Prelude.{Some}
 use Prim.Native.Nat.{ℕ, suc, ◌≤◌, ◌<◌}
 use native.Mathlib.Decide.{ℕ_discrete}
 use native.Mathlib.Omega.{arith}
@@ -23,7 +24,6 @@ use Rattle.event.specs.Events.{kind_of}
 use Rattle.undo.specs.Regions as Regions
 use Rattle.undo.specs.Regions.{logged_of}
 use Rattle.event.specs.declared.Event.TheVariants.{Store, Release}
-use Rattle.undo.specs.declared.Found.TheVariants.{At}
 use Rattle.thread_log.specs.declared.Log.{Log}
 use Rattle.undo.proofs.UndoInvariant.{UndoHolds, flush-holds, fence-holds, tear-holds}
 use Rattle.undo.proofs.LoggedLaws.{logged-at}
@@ -32,8 +32,9 @@ use Rattle.machine.specs.Effects.{load_effect, store_effect, flush_effect, flush
 use Rattle.machine.specs.Effects.{evict_cell_effect, evict_words_effect}
 use Rattle.machine.specs.Holds.{with_log, with_cache, with_accesses}
 use Rattle.accesses.specs.declared.Accesses.{Accesses}
-use Rattle.kinds.specs.Kinds.{LOAD, LOG, STORE, FLUSH, FLUSHLOG, FENCE, EVICTLOG, EVICTCELL, EVICTWORDS}
-use Rattle.machine.specs.declared.Machine.{Machine}
+use Rattle.kinds.specs.declared.Kind.TheVariants.{Load as LOAD, Log as LOG, Store as STORE, Flush as FLUSH, FlushLog as FLUSHLOG}
+use Rattle.kinds.specs.declared.Kind.TheVariants.{Fence as FENCE, EvictLog as EVICTLOG, EvictCell as EVICTCELL, EvictWords as EVICTWORDS}
+use Rattle.machine.specs.State.{Machine}
 use Rattle.machine.proofs.AcceptedMeans.{load_asked, log_asked, store_asked, flush-asked, flush_log_asked, fence_asked}
 use Rattle.machine.proofs.AcceptedMeans.{SlotAsked, evict_log_asked, evict_cell-asked, evict_words-asked}
 use Rattle.machine.proofs.Sizes.{Sized, effect-sized}
@@ -412,7 +413,7 @@ module _ {start : Beginning} {machine : Machine} {history : List Fed} {ghost : G
     }
 
     -- the cell's entry in the thread's current region, where it is found
-    pub logged-entry : thread < thread_count → (number : Lsn) → logged_of (log_at machine.logs thread) place ≡ At number →
+    pub logged-entry : thread < thread_count → (number : Lsn) → logged_of (log_at machine.logs thread) place ≡ Some number →
         (old : ℕ) × Is (entries_of start machine ghost) thread number.0 (Store place old) ×
         NoBoundaryAfter (entries_of start machine ghost) thread number.0 × ((log_at machine.logs thread).head.0 ≤ number.0)
     logged-entry in_thread number is_at =
@@ -437,7 +438,7 @@ module _ {start : Beginning} {machine : Machine} {history : List Fed} {ghost : G
         (asked.number, found.0, found.1, found.2, found.3, asked.is_durable)
 
     -- the thread took a LOG that made that entry, and no RELEASE since: that would stand at a RELEASE entry of the region
-    pub logged-now : thread < thread_count → (number : Lsn) → logged_of (log_at machine.logs thread) place ≡ At number →
+    pub logged-now : thread < thread_count → (number : Lsn) → logged_of (log_at machine.logs thread) place ≡ Some number →
         LoggedNow history thread place
     logged-now in_thread number is_at =
         let entries = entries_of start machine ghost in
@@ -466,7 +467,7 @@ module _ {start : Beginning} {machine : Machine} {history : List Fed} {ghost : G
 
     -- a LOG of a cell that the current region has an entry of makes none: it stands in that region, at or after that entry
     pub machine-log-again : AllFail (tests_of machine LOG thread place value) → (number : Lsn) →
-        logged_of (log_at machine.logs thread) place ≡ At number →
+        logged_of (log_at machine.logs thread) place ≡ Some number →
         MachineInvariant start machine (and_then history (took_step LOG thread place value)) ghost
     machine-log-again fails number is_at =
         let in_thread = (log_asked machine thread place value fails).in_thread in

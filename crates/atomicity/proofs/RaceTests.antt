@@ -15,7 +15,7 @@ use Rattle.clocks.specs.Clocks.{clock_at}
 use Rattle.accesses.specs.Accesses.{access_place}
 use Rattle.machine.specs.Clocks.{load_races, log_races}
 use Rattle.machine.specs.Holds.{clock_of}
-use Rattle.machine.specs.declared.Machine.{Machine}
+use Rattle.machine.specs.State.{Machine}
 use Rattle.atomicity.specs.History.{Fed, step_at}
 use Rattle.atomicity.specs.HappensBefore.{HappensBefore, through}
 use Rattle.atomicity.specs.Races.{IsAccess, Conflict, Race, DecidesRaces}

@@ -6,7 +6,7 @@ use native.Mathlib.Omega.{arith}
 use mathlib.Core.Path.{◌≡◌, refl, sym, ap, ◌∙◌, subst}
 use mathlib.Core.Bool.{Bool, true, false, cond}
 use mathlib.Core.List.{List, [], ◌∷◌}
-use mathlib.Core.Option.{Option, none, some}
+use Rattle.std.specs.Prelude.{Option, None, Some}
 use mathlib.Core.Logic.{◌⊎◌, inl, inr, ⊎_elim, by_cases}
 use lib.ListN.{length, get_or, length-map, get_or-eq_default}
 use lib.Dec.{eqb, ltb}
@@ -27,7 +27,7 @@ use Rattle.thread_log.proofs.PresentLaws.{PresentAre, present_are}
 use Rattle.thread_log.proofs.SlotLaws.{WordsAre}
 use Rattle.machine.specs.Holds.{no_log, lock_of}
 use Rattle.machine.specs.Image.{image_of}
-use Rattle.machine.specs.declared.Machine.{Machine}
+use Rattle.machine.specs.State.{Machine}
 use Rattle.machine.proofs.Counts.{Counted, count_bound}
 use Rattle.image.specs.Stored.{StoredLog, stored_logs, stored_log, present_in, entry_kind, entry_place, entry_value}
 use Rattle.image.specs.Tests.{is_bad_head, is_bad_entry, has_bad_entry}
@@ -54,12 +54,12 @@ either-start true is_one is_other = is_one
 either-start false is_one is_other = is_other
 
 opened-start : (book : Book) (thread : ℕ) (found : Option ℕ) → SameStart book (open_unless found book thread)
-opened-start book thread none = record { same = refl }
-opened-start book thread (some region) = record { same = refl }
+opened-start book thread None = record { same = refl }
+opened-start book thread (Some region) = record { same = refl }
 
 written_start : (book : Book) (place value : ℕ) (found : Option ℕ) → SameStart book (write found book place value)
-written_start book place value none = record { same = refl }
-written_start book place value (some region) = record { same = refl }
+written_start book place value None = record { same = refl }
+written_start book place value (Some region) = record { same = refl }
 
 feed-start : (book : Book) (kind thread place value : ℕ) (is_accepted : Bool) → SameStart book (feed book kind thread place value is_accepted)
 unfolding feed feed_accepted

@@ -8,7 +8,7 @@ use mathlib.Core.Path.{◌≡◌, refl, sym, ap, ◌∙◌}
 use mathlib.Core.Bool.{Bool, true, false, true≢false}
 use mathlib.Core.List.{List, []}
 use mathlib.Core.Logic.{◌⊎◌, inl, inr, ⊎_elim, by_cases}
-use mathlib.Core.Option.{Option, none, some}
+use Rattle.std.specs.Prelude.{Option, None, Some}
 use lib.Dec.{ltb}
 use lib.ListN.{length}
 use Rattle.undo.specs.Regions.{is_acquire, is_release}
@@ -234,13 +234,13 @@ unended-current {entries} {regions} {home} {thread} {number} holds made no_relea
 
 module _ {entries : Entries} {home : ℕ → ℕ → ℕ} (book : Book) (holds : RegionsHold entries book.regions home) where
   -- the thread's open region is that of its last entry, if that is no RELEASE
-  pub open_is : {thread number : ℕ} → Unended entries thread number → open_of book thread ≡ some (home thread number)
+  pub open_is : {thread number : ℕ} → Unended entries thread number → open_of book thread ≡ Some (home thread number)
   unfolding open_of
   open_is {thread} {number} last =
-      open_first thread book.regions (home thread number) 0 (open_region holds last) ∙ ap some (zero-add (home thread number))
+      open_first thread book.regions (home thread number) 0 (open_region holds last) ∙ ap Some (zero-add (home thread number))
 
   -- a thread that made no entry, or whose last entry is a RELEASE, has no open region
-  pub open-is-none : {thread : ℕ} → ((number : ℕ) → Unended entries thread number → ⊥) → open_of book thread ≡ none
+  pub open-is-none : {thread : ℕ} → ((number : ℕ) → Unended entries thread number → ⊥) → open_of book thread ≡ None
   unfolding open_of
   open-is-none {thread} ended =
       open_none thread book.regions 0 (λ place under. test-fails (λ is_owner is_open.
@@ -249,32 +249,32 @@ module _ {entries : Entries} {home : ℕ → ℕ → ℕ} (book : Book) (holds :
 
   -- where the cell has an entry in the current region, that region is the open one
   pub open-current : {thread number cell content : ℕ} → Is entries thread number (Store cell content) →
-      NoBoundaryAfter entries thread number → open_of book thread ≡ some (home thread number)
+      NoBoundaryAfter entries thread number → open_of book thread ≡ Some (home thread number)
   open-current {thread} {number} is no_boundary =
       let found = unended-current holds is.made (ap is_release is.says) no_boundary in
-      open_is found.1 ∙ ap some (sym found.2)
+      open_is found.1 ∙ ap Some (sym found.2)
 
 -- the place of the region that a LOG or a LOGREL joins: the open one's, or that of one more
 abbrev pub place_in : Option ℕ → ℕ → ℕ
-place_in none count = count
-place_in (some place) count = place
+place_in None count = count
+place_in (Some place) count = place
 
 abbrev pub joined_place : Book → ℕ → ℕ
 joined_place book thread = place_in (open_of book thread) (length book.regions)
 
 -- what the book says that LOG (2), ACQUIRE (4) and LOGREL (5) join
-joins-opened : (opened : Option ℕ) (book : Book) → join_opened opened book ≡ some (place_in opened (length book.regions))
-joins-opened none book = refl
-joins-opened (some place) book = refl
+joins-opened : (opened : Option ℕ) (book : Book) → join_opened opened book ≡ Some (place_in opened (length book.regions))
+joins-opened None book = refl
+joins-opened (Some place) book = refl
 
-pub joins_log : (book : Book) (thread : ℕ) → joins book 2 thread ≡ some (joined_place book thread)
+pub joins_log : (book : Book) (thread : ℕ) → joins book 2 thread ≡ Some (joined_place book thread)
 unfolding joins
 joins_log book thread = joins-opened (open_of book thread) book
 
-pub joins_acquire : (book : Book) (thread : ℕ) → joins book 4 thread ≡ some (length book.regions)
+pub joins_acquire : (book : Book) (thread : ℕ) → joins book 4 thread ≡ Some (length book.regions)
 unfolding joins
 joins_acquire book thread = refl
 
-pub joins_release : (book : Book) (thread : ℕ) → joins book 5 thread ≡ some (joined_place book thread)
+pub joins_release : (book : Book) (thread : ℕ) → joins book 5 thread ≡ Some (joined_place book thread)
 unfolding joins
 joins_release book thread = joins-opened (open_of book thread) book

@@ -6,7 +6,7 @@ use mathlib.Core.Path.{◌≡◌, refl, sym, ap, ◌∙◌}
 use mathlib.Core.Bool.{Bool, true, false, cond, not, ◌&&◌, true≢false}
 use mathlib.Core.List.{List, [], ◌∷◌, ◌++◌, map}
 use mathlib.Core.Logic.{◌⊎◌, inl, inr, ⊎_elim, by_cases}
-use mathlib.Core.Option.{some}
+use Rattle.std.specs.Prelude.{Some}
 use lib.Dec.{eqb, ltb}
 use lib.ListN.{length}
 use borrow.Author.Tests.{le-ltb, eq-eqb, eqb-true, not-true}
@@ -441,18 +441,18 @@ regions_release book step holds =
 -- the book says that LOG (2), ACQUIRE (4) and LOGREL (5) joined the region in which the new entry stands
 pub joins_log_home : {old new : Entries} {now thread : ℕ} {event : Event} {home after : ℕ → ℕ → ℕ} (book : Book) →
     AppendRegions old new now thread event home after (joined_place book thread) →
-    joins book 2 thread ≡ some (after thread (old.next thread))
-joins_log_home {thread} book step = joins_log book thread ∙ ap some (sym step.home_new)
+    joins book 2 thread ≡ Some (after thread (old.next thread))
+joins_log_home {thread} book step = joins_log book thread ∙ ap Some (sym step.home_new)
 
 pub joins_acquire_home : {old new : Entries} {now thread : ℕ} {event : Event} {home after : ℕ → ℕ → ℕ} (book : Book) →
     AppendRegions old new now thread event home after (length book.regions) →
-    joins book 4 thread ≡ some (after thread (old.next thread))
-joins_acquire_home {thread} book step = joins_acquire book thread ∙ ap some (sym step.home_new)
+    joins book 4 thread ≡ Some (after thread (old.next thread))
+joins_acquire_home {thread} book step = joins_acquire book thread ∙ ap Some (sym step.home_new)
 
 pub joins_release_home : {old new : Entries} {now thread : ℕ} {event : Event} {home after : ℕ → ℕ → ℕ} (book : Book) →
     AppendRegions old new now thread event home after (joined_place book thread) →
-    joins book 5 thread ≡ some (after thread (old.next thread))
-joins_release_home {thread} book step = joins_release book thread ∙ ap some (sym step.home_new)
+    joins book 5 thread ≡ Some (after thread (old.next thread))
+joins_release_home {thread} book step = joins_release book thread ∙ ap Some (sym step.home_new)
 
 -- the place of each entry's region, with one more entry's
 abbrev pub with_home : (ℕ → ℕ → ℕ) → ℕ → ℕ → ℕ → ℕ → ℕ → ℕ

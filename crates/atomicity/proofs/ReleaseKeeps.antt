@@ -1,4 +1,5 @@
 -- RELEASE keeps what holds of a machine and its history.
+use Rattle.std.specs.Prelude.{None}
 use Prim.Native.Nat.{ℕ, suc, ◌+◌, ◌<◌}
 use native.Mathlib.Decide.{ℕ_discrete}
 use native.Mathlib.Omega.{arith}
@@ -15,10 +16,9 @@ use Rattle.thread_log.specs.declared.Log.{Log}
 use Rattle.undo.proofs.UndoInvariant.{UndoHolds, release-holds}
 use Rattle.machine.specs.Effects.{release_effect, effect}
 use Rattle.machine.specs.Holds.{lock_of}
-use Rattle.kinds.specs.Kinds.{RELEASE}
-use Rattle.locks.specs.declared.Holder.TheVariants.{Nobody}
+use Rattle.kinds.specs.declared.Kind.TheVariants.{Release as RELEASE}
 use Rattle.locks.specs.declared.Lock.{Lock as LockState}
-use Rattle.machine.specs.declared.Machine.{Machine}
+use Rattle.machine.specs.State.{Machine}
 use Rattle.machine.proofs.AcceptedMeans.{release_asked}
 use Rattle.machine.proofs.Sizes.{effect-sized}
 use Rattle.machine.proofs.StepLaws.{tests_of}
@@ -50,7 +50,7 @@ module _ {start : Beginning} {machine : Machine} {history : List Fed} {ghost : G
       let in_logs : thread < length machine.logs = rw machine_holds.sized.logs asked.in_thread in
       let in_locks : place < length machine.locks = rw machine_holds.sized.locks asked.in_lock in
       let freed : LockState =
-      record { holder = Nobody; count = sync_count ((lock_of machine place).count.0 + 1); pruned = (lock_of machine place).pruned } in
+      record { holder = None; count = sync_count ((lock_of machine place).count.0 + 1); pruned = (lock_of machine place).pruned } in
       let keeps : Keeps (entries_of start machine ghost) (entries_of start after ghost) (length history) =
       keep_view start.before machine.logs ghost.event ghost.time ghost.made (length history) thread (end_release_of log)
       in_logs refl (omega arith) (omega arith) in
@@ -70,7 +70,7 @@ module _ {start : Beginning} {machine : Machine} {history : List Fed} {ghost : G
         releasing_other = λ other differs.
             ap (λ (l : Log). l.tail.releasing) (log_other machine.logs thread other (end_release_of log) differs);
         holder_self =
-            by-lock (λ lock state. lock ≡ place → state.holder ≡ Nobody) machine.locks place freed in_locks
+            by-lock (λ lock state. lock ≡ place → state.holder ≡ None) machine.locks place freed in_locks
             (λ same. refl) (λ other differs same. absurd (differs same)) place refl;
         holder_other =
             by-lock (λ other state. (other ≡ place → ⊥) → state.holder ≡ (lock_of machine other).holder) machine.locks

@@ -17,7 +17,7 @@ use Rattle.accesses.specs.Accesses.{access_place, logged_cell_of}
 use Rattle.clocks.specs.Clocks.{clock_at}
 use Rattle.machine.specs.Clocks.{log_races}
 use Rattle.machine.specs.Holds.{clock_of}
-use Rattle.machine.specs.declared.Machine.{Machine}
+use Rattle.machine.specs.State.{Machine}
 use Rattle.atomicity.specs.History.{Fed, step_at}
 use Rattle.atomicity.specs.HappensBefore.{Accepted, HappensBefore}
 use Rattle.atomicity.proofs.Ordered.{and_then, Reaches, StepOf, own-reaches, before-reaches, before_forward}

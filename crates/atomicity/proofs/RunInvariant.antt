@@ -7,7 +7,7 @@ use mathlib.Core.Bool.{true, false, true≢false}
 use borrow.Author.Tests.{eq-eqb}
 use mathlib.Core.List.{List, [], ◌∷◌}
 use mathlib.Core.Logic.{by_cases}
-use mathlib.Core.Option.{Option, none, some}
+use Rattle.std.specs.Prelude.{Option, None, Some}
 use lib.ListN.{length, set, take}
 use lib.Seq.{take-append-le, take-append_seam}
 use Rattle.sizes.specs.Sizes.{thread_count, entry_words}
@@ -18,20 +18,22 @@ use Rattle.tail.specs.Tail.{flushed_tail, fenced_tail, released_tail}
 use Rattle.undo.specs.Regions.{is_release, logged_of}
 use Rattle.event.specs.declared.Event.{Event}
 use Rattle.event.specs.declared.Event.TheVariants.{Store}
-use Rattle.undo.specs.declared.Found.TheVariants.{Nowhere, At}
 use Rattle.ring.specs.declared.Lsn.{Lsn}
 use Rattle.accesses.specs.Accesses.{loaded_of, logged_cell_of}
 use Rattle.machine.specs.Effects.{load_effect, first_log_effect, store_effect, acquire_effect, log_release_effect, release_effect, flush_effect}
 use Rattle.machine.specs.Effects.{flush_log_effect, fence_effect, evict_log_effect, evict_cell_effect, evict_words_effect, effect}
-use Rattle.kinds.specs.Kinds.{Kind, LOAD, LOG, STORE, ACQUIRE, LOGREL, RELEASE, FLUSH, FLUSHLOG, FENCE, PRUNE, EVICTLOG}
-use Rattle.kinds.specs.Kinds.{EVICTCELL, EVICTWORDS}
-use Rattle.machine.specs.declared.Machine.{Machine}
+use Rattle.kinds.specs.declared.Kind.{Kind}
+use Rattle.kinds.specs.declared.Kind.TheVariants.{Load as LOAD, Log as LOG, Store as STORE, Acquire as ACQUIRE, LogRel as LOGREL}
+use Rattle.kinds.specs.declared.Kind.TheVariants.{Release as RELEASE, Flush as FLUSH, FlushLog as FLUSHLOG, Fence as FENCE, Prune as PRUNE}
+use Rattle.kinds.specs.declared.Kind.TheVariants.{EvictLog as EVICTLOG, EvictCell as EVICTCELL, EvictWords as EVICTWORDS}
+use Rattle.machine.specs.State.{Machine}
 use Rattle.machine.proofs.AcceptedMeans.{log_asked, acquire_asked, log_release_asked, release_asked, flush_log_asked, fence_asked}
 use Rattle.machine.proofs.AcceptedMeans.{evict_log_asked, evict_words-asked, store_asked, prune_asked}
 use Rattle.machine.proofs.LogCases.{log_cases}
 use Rattle.machine.proofs.StepLaws.{tests_of}
 use Rattle.reference.specs.Reference.{Book, empty_book, open_unless, feed, feed_accepted, joins, open_of}
 use Rattle.atomicity.specs.History.{Fed, step_at, fed_book, Joined}
+use Rattle.atomicity.proofs.Locks.{never-both}
 use Rattle.atomicity.proofs.Logged.{Entries, Made, Is, Grows, new-made}
 use Rattle.atomicity.proofs.Cells.{NoBoundaryAfter}
 use Rattle.atomicity.proofs.BookLaws.{store_writes, store_regions}
@@ -87,7 +89,7 @@ pub record RunInvariant (start : Beginning) (machine : Machine) (history : List 
 -- the new step stands at an entry of the region that it joins, if it joins one
 abbrev pub JoinsNew : Beginning → List Fed → Fed → Entries → (ℕ → ℕ → ℕ) → Type 0
 JoinsNew start history fed entries home =
-    (region : ℕ) → fed.accepted ≡ true → joins (book_of start history) fed.kind fed.thread ≡ some region →
+    (region : ℕ) → fed.accepted ≡ true → joins (book_of start history) fed.kind fed.thread ≡ Some region →
     Made entries fed.thread (made_by entries (and_then history fed) fed.thread (suc (length history))) ×
     (home fed.thread (made_by entries (and_then history fed) fed.thread (suc (length history))) ≡ region)
 
@@ -130,11 +132,8 @@ module _ (start : Beginning) {history : List Fed} {old new : Entries} (home afte
 
 -- opening a region writes nothing
 open_writes : (found : Option ℕ) (book : Book) (thread : ℕ) → (open_unless found book thread).writes ≡ book.writes
-open_writes none book thread = refl
-open_writes (some place) book thread = refl
-
-never-joins : {A : Type 0} {found : Option ℕ} {region : ℕ} → found ≡ none → found ≡ some region → A
-never-joins is_none option_is_some = let never : ◌≡◌ {A = ℕ} 0 1 = cc in absurd (omega arith)
+open_writes None book thread = refl
+open_writes (Some place) book thread = refl
 
 module _ {start : Beginning} {machine : Machine} {history : List Fed} (run_holds : RunInvariant start machine history) where
   abbrev book : Book
@@ -153,7 +152,7 @@ module _ {start : Beginning} {machine : Machine} {history : List Fed} (run_holds
   run-quiet : (after : Machine) (fed : Fed) → MachineInvariant start after (and_then history fed) ghost →
       Follows after (and_then history fed) → EntriesStay start machine after ghost (length history) →
       feed book fed.kind fed.thread fed.place fed.value fed.accepted ≡ book →
-      (fed.accepted ≡ true → joins book fed.kind fed.thread ≡ none) →
+      (fed.accepted ≡ true → joins book fed.kind fed.thread ≡ None) →
       RunInvariant start after (and_then history fed)
   run-quiet after fed machine_holds follows stay passes joins_none =
       let same = book_then (empty_book start.cells) history fed ∙ passes in
@@ -166,7 +165,7 @@ module _ {start : Beginning} {machine : Machine} {history : List Fed} (run_holds
         writes = rw same (record { tracks = run_holds.writes.tracks });
         joined =
             joins-then start run_holds.home run_holds.home fed stay.keeps.grows (λ thread number made. refl)
-            run_holds.joined (λ region is_accepted option_is_some. never-joins (joins_none is_accepted) option_is_some);
+            run_holds.joined (λ region is_accepted option_is_some. never-both (joins_none is_accepted) option_is_some);
       }
 
   pub run-refused : (fed : Fed) → fed.accepted ≡ false → RunInvariant start machine (and_then history fed)
@@ -196,7 +195,7 @@ module _ {start : Beginning} {machine : Machine} {history : List Fed} (run_holds
         MachineInvariant start (effect machine kind thread place value).machine
         (and_then history (took_step kind thread place value)) ghost →
         (effect machine kind thread place value).machine.logs ≡ machine.logs →
-        feed book (kind_number kind) thread place value true ≡ book → joins book (kind_number kind) thread ≡ none →
+        feed book (kind_number kind) thread place value true ≡ book → joins book (kind_number kind) thread ≡ None →
         RunInvariant start (effect machine kind thread place value).machine (and_then history (took_step kind thread place value))
     run-still kind fails holds same_logs passes joins_none =
         run-quiet
@@ -253,7 +252,7 @@ module _ {start : Beginning} {machine : Machine} {history : List Fed} (run_holds
         (and_then history (took_step kind thread place value)) ghost →
         (effect machine kind thread place value).machine.logs ≡
         set machine.logs thread (evict_words_of (log_at machine.logs thread) place count) →
-        feed book (kind_number kind) thread place value true ≡ book → joins book (kind_number kind) thread ≡ none →
+        feed book (kind_number kind) thread place value true ≡ book → joins book (kind_number kind) thread ≡ None →
         RunInvariant start (effect machine kind thread place value).machine (and_then history (took_step kind thread place value))
     unfolding evict_words_of
     run-words kind count fails in_range holds is_set passes joins_none =
@@ -315,7 +314,7 @@ module _ {start : Beginning} {machine : Machine} {history : List Fed} (run_holds
               (rw (prune_logs machine thread place value) step.keeps.grows)
               (λ other number made. refl)
               run_holds.joined
-              (λ region is_accepted option_is_some. never-joins refl option_is_some);
+              (λ region is_accepted option_is_some. never-both refl option_is_some);
         }
 
     -- a step that makes no entry and joins the open region, in which an entry of a cell stands, stands in that region itself
@@ -340,7 +339,7 @@ module _ {start : Beginning} {machine : Machine} {history : List Fed} (run_holds
         (λ other number made. refl)
         run_holds.joined
         (λ region is_accepted option_is_some.
-        let lands : some (run_holds.home thread last.0) ≡ some region =
+        let lands : Some (run_holds.home thread last.0) ≡ Some region =
         sym (open_is book run_holds.regions last.1) ∙ (sym joins_open ∙ option_is_some) in
         rw at_last (last.1.made, (cc)))
 
@@ -364,7 +363,7 @@ module _ {start : Beginning} {machine : Machine} {history : List Fed} (run_holds
 
     -- a LOG of a cell that the current region has an entry of leaves all as it is, and joins that region
     run-log-again : AllFail (tests_of machine LOG thread place value) → (number : Lsn) →
-        logged_of (log_at machine.logs thread) place ≡ At number → Follows machine (and_then history (took_step LOG thread place value)) →
+        logged_of (log_at machine.logs thread) place ≡ Some number → Follows machine (and_then history (took_step LOG thread place value)) →
         RunInvariant start machine (and_then history (took_step LOG thread place value))
     unfolding feed feed_accepted
     run-log-again fails number is_at follows =
@@ -394,7 +393,7 @@ module _ {start : Beginning} {machine : Machine} {history : List Fed} (run_holds
     joined-append : (kind : Kind) (new : Entries) (region : ℕ) {event : Event} → thread < thread_count →
         AppendRegions (entries_of start machine ghost) new (length history) thread event run_holds.home
         (with_home run_holds.home thread newest region) region →
-        joins book (kind_number kind) thread ≡ some (with_home run_holds.home thread newest region thread newest) →
+        joins book (kind_number kind) thread ≡ Some (with_home run_holds.home thread newest region thread newest) →
         JoinsHold start (and_then history (took_step kind thread place value)) new (with_home run_holds.home thread newest region)
     joined-append kind new region in_thread homes joins_it =
         let fed = took_step kind thread place value in
@@ -411,10 +410,10 @@ module _ {start : Beginning} {machine : Machine} {history : List Fed} (run_holds
         homes.home_kept
         run_holds.joined
         (λ found is_accepted option_is_some.
-        let lands : some (with_home run_holds.home thread newest region thread newest) ≡ some found = sym joins_it ∙ option_is_some in
+        let lands : Some (with_home run_holds.home thread newest region thread newest) ≡ Some found = sym joins_it ∙ option_is_some in
         rw at_new (new-made homes.appends, (cc)))
 
-    run-first-log : AllFail (tests_of machine LOG thread place value) → logged_of (log_at machine.logs thread) place ≡ Nowhere →
+    run-first-log : AllFail (tests_of machine LOG thread place value) → logged_of (log_at machine.logs thread) place ≡ None →
         Follows (first_log_effect machine thread place).machine (and_then history (took_step LOG thread place value)) →
         RunInvariant start (first_log_effect machine thread place).machine (and_then history (took_step LOG thread place value))
     unfolding first_log_effect logged_cell_of feed feed_accepted

@@ -1,5 +1,6 @@
 -- A machine that a list of steps begins at has all that the concerns ask, so every machine that steps lead to from it has. The start call's
 -- is one of them: the one with the start cells.
+use Rattle.std.specs.Prelude.{Some}
 use Prim.Native.Nat.{ℕ, suc, ◌-◌, ◌≤◌}
 use native.Mathlib.Decide.{ℕ_discrete}
 use native.Mathlib.Omega.{arith}
@@ -16,18 +17,16 @@ use Rattle.event.specs.Events.{payload_of}
 use Rattle.event.specs.declared.Event.TheVariants.{Empty}
 use Rattle.thread_log.specs.declared.Log.{Log}
 use Rattle.thread_log.proofs.Idle.{idle_holds}
-use Rattle.tail.specs.declared.Releasing.TheVariants.{Lock}
 use Rattle.machine.specs.Holds.{lock_of, fresh_machine, start_of}
 use Rattle.machine.specs.Runs.{Step, after}
-use Rattle.locks.specs.declared.Holder.TheVariants.{Thread}
 use Rattle.locks.specs.declared.Lock.{Lock as LockState}
-use Rattle.machine.specs.declared.Machine.{Machine}
+use Rattle.machine.specs.State.{Machine}
 use Rattle.machine.proofs.Beginnings.{machine_with, AllIdle, each-log, releases-nothing, lock-free, fresh_logs, fresh-all}
 use Rattle.machine.proofs.Sizes.{begin_sized}
 use Rattle.atomicity.specs.History.{fed_book, history_of, start_machine, start_cells, machine_after, history_after}
 use Rattle.atomicity.proofs.Logged.{Made}
 use Rattle.atomicity.proofs.Cells.{unlogged}
-use Rattle.atomicity.proofs.Holding.{nobody_holds, nothing_released}
+use Rattle.atomicity.proofs.Locks.{never-both}
 use Rattle.atomicity.proofs.HistoryRuns.{run-keeps}
 use Rattle.atomicity.proofs.Places.{made_by}
 use Rattle.atomicity.proofs.Regions.{regions_start}
@@ -58,11 +57,11 @@ module _ (cells : List ℕ) (logs : List Log) (is_length : length cells ≡ cell
   none_made : {A : Type 0} {thread number : ℕ} → Made (entries_of begin machine nothing_said) thread number → A
   none_made {A} {thread} made = let bound = next-most thread in let since = made.since in let below = made.below in absurd (omega arith)
 
-  never-held : {A : Type 0} (lock : ℕ) {thread : ℕ} → (lock_of machine lock).holder ≡ Thread thread → A
-  never-held lock is_held = nobody_holds (ap (λ (state : LockState). state.holder) (lock-free logs all cells lock)) is_held
+  never-held : {A : Type 0} (lock : ℕ) {thread : ℕ} → (lock_of machine lock).holder ≡ Some thread → A
+  never-held lock is_held = never-both (ap (λ (state : LockState). state.holder) (lock-free logs all cells lock)) is_held
 
-  never-releases : {A : Type 0} (thread : ℕ) {lock : ℕ} → (log_at logs thread).tail.releasing ≡ Lock lock → A
-  never-releases thread is_releasing = nothing_released (releases-nothing logs all thread) is_releasing
+  never-releases : {A : Type 0} (thread : ℕ) {lock : ℕ} → (log_at logs thread).tail.releasing ≡ Some lock → A
+  never-releases thread is_releasing = never-both (releases-nothing logs all thread) is_releasing
 
   begin-machine : MachineInvariant begin machine [] nothing_said
   unfolding nothing_said made_by count_below

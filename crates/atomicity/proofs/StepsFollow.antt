@@ -1,4 +1,5 @@
 -- Each step keeps what a machine has to do with its history: its clocks, accesses and locks are those of the history.
+use Rattle.std.specs.Prelude.{None, Some}
 use Prim.Native.Nat.{ℕ, suc, ◌<◌, ◌≤◌, ◌+◌, ◌-◌}
 use mathlib.Core.Path.{◌≡◌, refl, sym, ◌∙◌, ap}
 use mathlib.Core.Bool.{true, false, false≢true}
@@ -18,7 +19,6 @@ use Rattle.thread_log.specs.Entries.{flush_log_of, fence_log_of, evict_words_of,
 use Rattle.undo.specs.Regions.{oldest_region, logged_of}
 use Rattle.event.specs.declared.Event.{Event}
 use Rattle.event.specs.declared.Event.TheVariants.{Empty, Store, Acquire, Release}
-use Rattle.undo.specs.declared.Found.TheVariants.{Nowhere, At}
 use Rattle.thread_log.specs.declared.Log.{Log}
 use Rattle.ring.specs.declared.Lsn.{Lsn}
 use Rattle.clocks.specs.Clocks.{no_clock, start_clocks}
@@ -26,13 +26,14 @@ use Rattle.accesses.specs.Accesses.{logged_cell_of}
 use Rattle.machine.specs.Effects.{load_effect, first_log_effect, store_effect, acquire_effect, log_release_effect, release_effect, flush_effect}
 use Rattle.machine.specs.Effects.{flush_log_effect, fence_effect, prune_effect, count_pruned, evict_log_effect, effect}
 use Rattle.machine.specs.Effects.{evict_cell_effect, evict_words_effect}
-use Rattle.kinds.specs.Kinds.{Kind, LOAD, LOG, STORE, ACQUIRE, LOGREL, RELEASE, FLUSH, FLUSHLOG, FENCE, PRUNE, EVICTLOG}
-use Rattle.kinds.specs.Kinds.{EVICTCELL, EVICTWORDS}
+use Rattle.kinds.specs.declared.Kind.{Kind}
+use Rattle.kinds.specs.declared.Kind.TheVariants.{Load as LOAD, Log as LOG, Store as STORE, Acquire as ACQUIRE, LogRel as LOGREL}
+use Rattle.kinds.specs.declared.Kind.TheVariants.{Release as RELEASE, Flush as FLUSH, FlushLog as FLUSHLOG, Fence as FENCE, Prune as PRUNE}
+use Rattle.kinds.specs.declared.Kind.TheVariants.{EvictLog as EVICTLOG, EvictCell as EVICTCELL, EvictWords as EVICTWORDS}
 use Rattle.machine.specs.Holds.{log_of, lock_of, clock_of, with_log}
 use Rattle.machine.specs.Refusals.{acquire_tests, log_release_tests, state_tests}
 use Rattle.locks.specs.LockSteps.{release_tests}
-use Rattle.locks.specs.declared.Holder.TheVariants.{Nobody, Thread}
-use Rattle.machine.specs.declared.Machine.{Machine}
+use Rattle.machine.specs.State.{Machine}
 use Rattle.machine.proofs.AcceptedMeans.{load_asked, first_log_asked}
 use Rattle.machine.proofs.LogCases.{log_cases}
 use Rattle.machine.proofs.StepLaws.{tests_of}
@@ -83,7 +84,7 @@ pruned_held machine (Release lock count) held =
 -- where a thread's current region has an entry of a cell, the thread took a LOG of it and no RELEASE since
 abbrev pub LogsNow : Machine → List Fed → Type 0
 LogsNow machine history =
-    (thread cell : ℕ) → thread < thread_count → (number : Lsn) → logged_of (log_of machine thread) cell ≡ At number →
+    (thread cell : ℕ) → thread < thread_count → (number : Lsn) → logged_of (log_of machine thread) cell ≡ Some number →
     LoggedNow history thread cell
 
 module _ (machine : Machine) (history : List Fed) (follows : Follows machine history) where
@@ -275,7 +276,7 @@ module _ (machine : Machine) (history : List Fed) (follows : Follows machine his
           held = rw (same_clocks, same_lock_clocks) (held is_thread);
         }
 
-    first-log-kept : AllFail (tests_of machine LOG thread place value) → logged_of (log_of machine thread) place ≡ Nowhere →
+    first-log-kept : AllFail (tests_of machine LOG thread place value) → logged_of (log_of machine thread) place ≡ None →
         Sized (first_log_effect machine thread place).machine →
         Follows (first_log_effect machine thread place).machine (and_then history (took_step LOG thread place value))
     unfolding first_log_effect append_of grown_tail
@@ -333,7 +334,7 @@ module _ (machine : Machine) (history : List Fed) (follows : Follows machine his
               (held_with thread is_thread (enter_of (log_of machine thread) (Acquire place (lock_of machine place).count)) refl)
               thread
               place
-              (record { holder = Thread thread; count = (lock_of machine place).count; pruned = (lock_of machine place).pruned })
+              (record { holder = Some thread; count = (lock_of machine place).count; pruned = (lock_of machine place).pruned })
               (omega (arith, follows.sized.clocks))
               (omega (arith, follows.sized.locks))
               refl
@@ -369,7 +370,7 @@ module _ (machine : Machine) (history : List Fed) (follows : Follows machine his
               thread
               place
               (end_release_of (log_of machine thread))
-              (record { holder = Nobody; count = sync_count ((lock_of machine place).count.0 + 1); pruned = (lock_of machine place).pruned })
+              (record { holder = None; count = sync_count ((lock_of machine place).count.0 + 1); pruned = (lock_of machine place).pruned })
               (clock_of machine thread)
               (omega (arith, follows.sized.clocks))
               (omega (arith, follows.sized.logs))

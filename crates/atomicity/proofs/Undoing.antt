@@ -1,5 +1,6 @@
 -- The undoing lemma: from logs, present entries and cells that can be undone, every lawful order of taking all entries ends in the same
 -- cells, document 01's order is one of them, and recovery of such an image accepts it and gives those cells.
+use Rattle.std.specs.Prelude.{Ok}
 use Prim.Native.Nat.{ℕ}
 use mathlib.Core.Path.{◌≡◌, refl, sym, ◌∙◌}
 use mathlib.Core.Bool.{false}
@@ -12,7 +13,6 @@ use borrow.Author.Tests.{eq-eqb}
 use Rattle.sizes.specs.Sizes.{thread_count}
 use Rattle.answer.specs.Lists.{some_below}
 use Rattle.answer.specs.Refusals.{unless}
-use Rattle.answer.specs.declared.Answer.TheVariants.{Accepted}
 use Rattle.image.specs.Stored.{StoredLog, stored_log, stored_logs}
 use Rattle.image.specs.Tests.{is_bad_head, has_bad_entry, image_tests}
 use Rattle.undoing.specs.Undo.{Undo, take_many, undo_start, undone}
@@ -71,7 +71,7 @@ pub recovers : (image buffer final : List ℕ) → length image ≡ 1156 → len
     → some_below thread_count (λ thread. is_bad_head (stored_log (stored_logs image) thread)) ≡ false
     → some_below thread_count (λ thread. has_bad_entry (stored_log (stored_logs image) thread)) ≡ false
     → Undoable (stored_logs image) (undo_start image).left (undo_start image).cells final
-    → ((recover_of image buffer).answer ≡ Accepted 0) × ((recover_of image buffer).buffer ≡ final)
+    → ((recover_of image buffer).answer ≡ Ok 0) × ((recover_of image buffer).buffer ≡ final)
 unfolding recover_of recover_tests image_tests unless undone
 recovers image buffer final image_length buffer_length good_heads good_entries undoable =
     let ends = in_order (stored_logs image) (undo_start image).left (undo_start image).cells final undoable in

@@ -1,7 +1,6 @@
 -- Demand 3, as one claim over the start words, the list of steps, the place of the cut and the two lent buffers.
-use Rattle.std.specs.Prelude.{ℕ, ◌≤◌, ◌≡◌, true, List, length, take}
+use Rattle.std.specs.Prelude.{ℕ, ◌≤◌, ◌≡◌, true, List, length, take, Ok}
 use Rattle.answer.specs.Refusals.{Outcome}
-use Rattle.answer.specs.declared.Answer.TheVariants.{Accepted}
 use Rattle.cache.specs.Cache.{cell_count}
 use Rattle.reader.specs.Stretch.{image_words}
 use Rattle.machine.specs.Image.{cut_of}
@@ -22,9 +21,9 @@ recovered_after words steps image buffer = recover_of (cut_after words steps ima
 -- what demand 3 says of a cut after these steps, whatever the two lent buffers held
 pub record Recovers (words : List ℕ) (steps : List Step) (image buffer : List ℕ) : Type 0 where
   -- the cut accepts its buffer
-  pub cuts : (cut_after words steps image).answer ≡ Accepted 0
+  pub cuts : (cut_after words steps image).answer ≡ Ok 0
   -- "recovery accepts the image"
-  pub accepts : (recovered_after words steps image buffer).answer ≡ Accepted 0
+  pub accepts : (recovered_after words steps image buffer).answer ≡ Ok 0
   -- "all 128 recovered cells equal those of document 01's plain book"
   pub cells : (recovered_after words steps image buffer).buffer ≡ cells_of (book_after words steps)
   pub all128 : length (cells_of (book_after words steps)) ≡ cell_count

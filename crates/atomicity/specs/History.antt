@@ -1,11 +1,10 @@
 -- A list of steps from a start call: its machine, each step with whether it was accepted, and the reference model that was fed them.
-use Rattle.std.specs.Prelude.{ℕ, ◌≡◌, Bool, true, false, cond, List, [], ◌∷◌, length, get_or, take, replicate, eqb}
-use Rattle.std.proofs.Math.Option.{some}
+use Rattle.std.specs.Prelude.{ℕ, ◌≡◌, Bool, true, false, cond, List, [], ◌∷◌, length, get_or, take, replicate, eqb, Some}
 use Rattle.answer.specs.Answer.{is_accepted}
 use Rattle.cache.specs.Cache.{cell_count}
 use Rattle.machine.specs.Holds.{start_of}
 use Rattle.machine.specs.Runs.{Step, step_with, after}
-use Rattle.machine.specs.declared.Machine.{Machine}
+use Rattle.machine.specs.State.{Machine}
 use Rattle.reference.specs.Reference.{Book, empty_book, feed, joins}
 
 -- a step, and whether it was accepted
@@ -73,4 +72,4 @@ book_before cells history place = fed_book (empty_book cells) (take place histor
 -- "a region's steps are those that joined it": the accepted step at this place joined this region
 pub record Joined (cells : List ℕ) (history : List Fed) (place region : ℕ) : Type 0 where
   pub is_accepted : (step_at history place).accepted ≡ true
-  pub joined_region : joins (book_before cells history place) (step_at history place).kind (step_at history place).thread ≡ some region
+  pub joined_region : joins (book_before cells history place) (step_at history place).kind (step_at history place).thread ≡ Some region

@@ -1,7 +1,6 @@
 -- A claimed undo order of a machine's image. Document 02: "An accepted one for a machine's image undoes to the cells that recovery gives."
 -- Which lists are accepted stands in `order/specs/Check.antt`, and that these are the orders in `Claims.antt` there.
-use Rattle.std.specs.Prelude.{ℕ, ◌≤◌, ◌≡◌, List, length, take}
-use Rattle.answer.specs.declared.Answer.TheVariants.{Accepted}
+use Rattle.std.specs.Prelude.{ℕ, ◌≤◌, ◌≡◌, List, length, take, Ok}
 use Rattle.cache.specs.Cache.{cell_count}
 use Rattle.machine.specs.Image.{image_of}
 use Rattle.machine.specs.Runs.{Step}
@@ -15,4 +14,4 @@ abbrev pub Undoes : Type 0
 Undoes =
     (words : List ℕ) (steps : List Step) (cut : ℕ) (pairs buffer : List ℕ) → cut ≤ length steps → length buffer ≡ cell_count →
     let image = image_of (machine_after words (take cut steps)) in
-    (check_of image pairs).answer ≡ Accepted 0 → undone_in_order image (pairs_of pairs) ≡ (recover_of image buffer).buffer
+    (check_of image pairs).answer ≡ Ok 0 → undone_in_order image (pairs_of pairs) ≡ (recover_of image buffer).buffer

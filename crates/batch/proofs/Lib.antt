@@ -1,2 +1,3 @@
 -- Laws of a call that logs many cells.
 pub mod BatchLaws
+pub mod Cases

@@ -1,14 +1,14 @@
 -- "A new call takes a thread and a lent list of up to 16 cells and logs them in order, up to the first refused. It answers how many were
 -- accepted, and the refusal that stopped it, or 0. The machine is then that of single LOG steps for the accepted cells. (New 25: a list
 -- longer than 16, tested first; it changes nothing.)" (document 02)
-use Rattle.std.specs.Prelude.{ℕ, suc, ◌≤◌, ◌<◌, ◌≡◌, false, cond, List, [], ◌∷◌, map, length, get_or, take, replicate, ltb}
+use Rattle.std.specs.Prelude.{Ok, ℕ, suc, ◌+◌, ◌≤◌, ◌<◌, ◌≡◌, false, cond, List, [], ◌∷◌, map, length, get_or, take, replicate, ltb}
 use Rattle.answer.specs.Answer.{number_of, is_accepted}
 use Rattle.answer.specs.Refusals.{◌⇒◌, unless}
-use Rattle.answer.specs.declared.Answer.{Answer}
-use Rattle.answer.specs.declared.Answer.TheVariants.{Accepted, TooManyCells}
+use Rattle.answer.specs.Answer.{Answer}
+use Rattle.answer.specs.declared.Refusal.TheVariants.{TooManyCells}
 use Rattle.machine.specs.Runs.{Step, step_with, after, answers}
 use Rattle.machine.specs.Steps.{refused}
-use Rattle.machine.specs.declared.Machine.{Machine}
+use Rattle.machine.specs.State.{Machine}
 use Rattle.batch.specs.declared.CellsLogged.{CellsLogged}
 
 -- "up to 16 cells"
@@ -23,14 +23,17 @@ log_step thread cell = record { kind = 2; thread = thread; place = cell; value =
 abbrev pub none_logged : Machine → Answer → CellsLogged
 none_logged machine answer = record { count = 0; answer = answer; machine = machine }
 
--- one cell was accepted before these
+-- so many cells were accepted before these, and one
+abbrev pub many_before : ℕ → CellsLogged → CellsLogged
+many_before count logged = record { count = count + logged.count; answer = logged.answer; machine = logged.machine }
+
 abbrev pub one_before : CellsLogged → CellsLogged
 one_before logged = record { count = suc logged.count; answer = logged.answer; machine = logged.machine }
 
 -- "logs them in order, up to the first refused": that one changes nothing, and none after it is tried. A cell logged again is accepted
 -- and counts. "the refusal that stopped it, or 0": no rank stands beside the 0.
 unfoldable pub log_each : Machine → ℕ → List ℕ → CellsLogged
-log_each machine thread [] = none_logged machine (Accepted 0)
+log_each machine thread [] = none_logged machine (Ok 0)
 log_each machine thread (cell ∷ cells) =
     let stepped = step_with machine (log_step thread cell) in
     cond (is_accepted stepped.answer) (one_before (log_each stepped.machine thread cells)) (none_logged machine stepped.answer)
@@ -58,7 +61,7 @@ pub record LogsSingly (machine : Machine) (thread : ℕ) (cells : List ℕ) (log
       (step_with logged.machine (log_step thread (get_or cells logged.count 0)) ≡ refused logged.machine logged.answer) ×
       (is_accepted logged.answer ≡ false)
   -- "or 0"
-  pub all_logged : logged.count ≡ length cells → logged.answer ≡ Accepted 0
+  pub all_logged : logged.count ≡ length cells → logged.answer ≡ Ok 0
 
 -- the claim, of every machine, every thread and every list of at most 16 words
 abbrev pub AllLogSingly : Type 0

@@ -44,9 +44,9 @@ found_decimal (suc more) places number word holds least =
     (found_decimal more (suc places) number word (λ top more. holds top (omega arith)) (λ some. omega arith)))
 
 -- what std writes for a word is the text of the definition
-pub decimal-is : (number : ℕ) → number < 2 ^ 64 → decimal number ≡ decimal_text number
+pub decimal_is : (number : ℕ) → number < 2 ^ 64 → decimal number ≡ decimal_text number
 unfolding decimal_text
-decimal-is number word = sym (found_decimal 19 0 number word
+decimal_is number word = sym (found_decimal 19 0 number word
     (λ top more.
     let larger : 10 ^ 20 ≤ 10 ^ top = pow-le-pow_right {n = 10} (omega arith) {i = 20} {j = top} more in
     omega arith)

@@ -1,35 +1,56 @@
 // Text into a lent buffer. What does not fit is not written.
 #![tactic(auto)]
 
-ghost use Rattle.std.specs.Prelude.{◌≡◌};
-ghost use Rattle.buffer.specs.Buffers.{written, place_after};
+ghost use Rattle.std.specs.Prelude.{◌≡◌, ◌≤◌, length, take};
+ghost use Rattle.buffer.specs.Pages.{Put};
 ghost use Rattle.number.specs.Decimal.{decimal_text};
 
-// Writes a text at a place of the buffer, and answers the place after it.
-pub fn write(buffer: &mut [u8], place: usize, text: &[u8]) -> usize
-    ensures value { result ≡ place_after buffer.old place text.now }
-    ensures buffer_after { buffer.new ≡ written buffer.old place text.now }
-{
-    if buffer.len() < place {
-        return place;
-    }
-    if buffer.len() - place < text.len() {
-        return place;
-    }
-    let mut i = 0;
-    while i < text.len() {
-        buffer[place + i] = text[i];
-        i += 1;
-    }
-    place + text.len()
+use itoa::Buffer;
+
+// A lent buffer, and the place in it where the next text goes.
+#[derive(Drop)]
+pub struct Page<'a> {
+    pub buffer: &'a mut [u8],
+    pub place: usize,
 }
 
-// Writes a number in decimal.
-pub fn write_number(buffer: &mut [u8], place: usize, number: u64) -> usize
-    ensures value { result ≡ place_after buffer.old place (decimal_text number) }
-    ensures buffer_after { buffer.new ≡ written buffer.old place (decimal_text number) }
-{
-    let mut digits = [0u8; 20];
-    let start = itoa::write_digits(number, &mut digits, 20);
-    write(buffer, place, &digits[start..])
+impl<'a> Page<'a> {
+    // A page that begins at the buffer's front.
+    pub fn new(buffer: &'a mut [u8]) -> Page<'a>
+        ensures same_reference { result.buffer.ghost_name ≡ buffer.entry.ghost_name }
+        ensures held { result.buffer.now ≡ buffer.old }
+        ensures place { result.place ≡ 0 }
+    {
+        Page { buffer, place: 0 }
+    }
+
+    // Writes a text, where it fits.
+    #[tactic(auto, unfolding(crate::specs::Buffers::written, crate::specs::Buffers::place_after))]
+    pub fn write(&mut self, text: &[u8])
+        ensures { Put self.old self.new text.now }
+    {
+        if self.buffer.len() < self.place || self.buffer.len() - self.place < text.len() {
+            return;
+        }
+        let end = self.place + text.len();
+        self.buffer[self.place..end].copy_from_slice(text);
+        self.place = end;
+    }
+
+    // Writes a number in decimal.
+    #[tactic(auto, using(crate::proofs::DecimalLaws::decimal_is))]
+    pub fn write_number(&mut self, number: u64)
+        ensures { Put self.old self.new (decimal_text number) }
+    {
+        let mut digits = Buffer::new();
+        self.write(digits.format(number).as_bytes());
+    }
+
+    // What is written, where the page began at the front.
+    pub fn text(&self) -> &[u8]
+        requires { self.now.place ≤ length self.now.buffer.now }
+        ensures { result.now ≡ take self.now.place self.now.buffer.now }
+    {
+        &self.buffer[..self.place]
+    }
 }

@@ -85,17 +85,6 @@ module _ (line : ℕ) (flags : List Bool) where
   marked-outside cell other =
       get_d-set_from-kept (λ k. eqb (line_of k) line) true flags cell false (ne_eqb (line_of cell) line other)
 
-  pub marked-starts : flags ≡ partly (line * 8) (marked line flags) flags
-  marked-starts = line-starts (marked line flags) flags false line marked-long marked-outside
-
-  pub marked_turn : (cell : ℕ) → line * 8 ≤ cell → cell < line * 8 + 8 → cell < length flags →
-      set (partly cell (marked line flags) flags) cell true ≡ partly (cell + 1) (marked line flags) flags
-  marked_turn cell past before below =
-      partly-write (marked line flags) flags false marked-long cell true below (marked-inside cell (omega arith) below)
-
-  pub marked-done : (cell : ℕ) → line * 8 + 8 ≤ cell → partly cell (marked line flags) flags ≡ marked line flags
-  marked-done = line-done (marked line flags) flags false line marked-long marked-outside
-
 -- ---- every thread's pending flush of a line is dropped
 abbrev pub cleared : ℕ → List Bool → List Bool
 cleared line pending = set_from (λ place. eqb (place % line_count) line) false 0 pending

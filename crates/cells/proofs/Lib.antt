@@ -1,2 +1,2 @@
--- What a copy of cells is, by the lengths of its lists, and the loop that makes it.
+-- What a copy of cells leaves in a buffer of just as many words.
 pub mod CopyLaws

@@ -2,16 +2,11 @@
 #![tactic(auto)]
 
 use claimed::VERDICT_ROOM;
-use input::read_full;
-use listing::MOST_INPUT;
+use input::answer_input;
+use listing::INPUT_ROOM;
 use std::io;
-use std::io::Write;
 
 fn main(rt: HostRuntime) -> io::Result<()> {
-    // one byte more than a listing may have, so that a longer one shows
-    let mut input = [0u8; MOST_INPUT + 1];
-    let mut output = [0u8; VERDICT_ROOM];
-    let count = read_full(&mut rt.stdin(), &mut input)?;
-    let end = claimed::verdict(&input[..count], &mut output);
-    io::writer(&rt).write_all(&output[..end])
+    answer_input::<INPUT_ROOM, VERDICT_ROOM, _>(rt, claimed::verdict)?;
+    Ok(())
 }

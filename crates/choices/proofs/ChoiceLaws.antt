@@ -1,16 +1,21 @@
 -- Laws of the choices of lines: which lines are tried, how many choices there are, which one has which number, and how the loops come to
 -- them.
-use Prim.Native.Nat.{ℕ, zero, suc, ◌+◌, ◌-◌, ◌*◌, ◌/◌, ◌%◌, ◌≤◌, ◌<◌}
+use Prim.Native.Nat.{ℕ, zero, suc, ◌+◌, ◌-◌, ◌*◌, ◌/◌, ◌%◌, ◌^◌, ◌≤◌, ◌<◌}
 use native.Mathlib.Numerals.{add-one}
 use native.Mathlib.Omega.{arith}
 use mathlib.Core.Path.{◌≡◌, refl, sym, ap, ap₂, ◌∙◌}
 use mathlib.Core.Bool.{Bool, true, false, cond, not, ◌||◌, or-false}
 use mathlib.Core.List.{List, [], ◌∷◌, ◌++◌, map, flatten, append_assoc, append-nil}
-use lib.ListN.{length, get_or, set, take, drop, replicate, length-set, length-take, drop_of_length-le}
+use lib.ListN.{length, get_or, set, take, drop, replicate, length-set, length-take, length-drop, drop_of_length-le}
 use lib.Seq.{drop-cons, drop-length, take_all, take-append-le, take-suc-set, get_or-take, ext_get_or}
 use lib.Dec.{eqb}
 use borrow.Author.Tests.{eq-eqb, ne_eqb}
+use Rattle.std.specs.Bool.{Decides}
+use Rattle.std.proofs.lemmas.Bool.{eqb-true}
+use Rattle.std.proofs.lemmas.Grind.{pow_more}
+use Rattle.std.proofs.lemmas.List.{get_or-drop}
 use Rattle.answer.specs.Lists.{tab}
+use Rattle.answer.proofs.BelowLaws.{none-some_below, some_below-none}
 use Rattle.answer.proofs.ListLaws.{length-tab, get_d-tab, get_d_set, get_d-blank}
 use Rattle.answer.proofs.Searches.{search_same}
 use Rattle.cache.specs.Cache.{cell_count, line_count}
@@ -19,18 +24,11 @@ use Rattle.choices.specs.Counting.{Below, is_in, choice_at, twos, marks_of, coun
 
 -- ---- how many choices there are
 
--- more lines have no fewer choices
-twos_grow : (count more : ℕ) → count ≤ more → twos count ≤ twos more
+-- they are a power of 2
+pub twos_power : (count : ℕ) → twos count ≡ 2 ^ count
 unfolding twos
-twos_grow zero zero le = omega arith
-twos_grow zero (suc more) le = omega (arith, twos_grow zero more (omega arith))
-twos_grow (suc count) zero le = absurd (omega arith)
-twos_grow (suc count) (suc more) le = omega (arith, twos_grow count more (omega arith))
-
--- eight lines have 256 choices, and fewer lines no more
-pub twos-most : (count : ℕ) → count ≤ 8 → twos count ≤ 256
-unfolding twos
-twos-most count few = twos_grow count 8 few
+twos_power zero = refl
+twos_power (suc count) = rw (twos_power count, ← add-one count) (omega (arith, pow_more 2 count))
 
 -- ---- a list that has two for each of another
 
@@ -303,3 +301,49 @@ pub lowest-same : (seen kept seen' kept' : List ℕ) → take cell_count seen �
 unfolding lowest_lines
 lowest-same seen kept seen' kept' is_seen is_kept =
     ap (take 8) (lines_same _ _ 0 line_count (λ line below. differs-same seen kept seen' kept' is_seen is_kept line below))
+
+-- ---- a line of which the cells are compared all at once
+
+not_false : (test : Bool) → not test ≡ false → test ≡ true
+not_false true is = refl
+not_false false is = sym is
+
+module _ (seen kept : List ℕ) (line count : ℕ) (eight : count ≡ 8) (within : line < line_count)
+    (all_seen : cell_count ≤ length seen) (all_kept : cell_count ≤ length kept) where
+  -- the line's cells
+  abbrev part : List ℕ → List ℕ
+  part words = take count (drop (line * 8) words)
+
+  part-at : (words : List ℕ) (index : ℕ) → index < 8 → get_or (part words) index 0 ≡ get_or words (line * 8 + index) 0
+  part-at words index below = get_or-take count (drop (line * 8) words) index 0 (omega arith) ∙ get_or-drop (line * 8) words index 0
+
+  same-none : part seen ≡ part kept → differs_in seen kept line ≡ false
+  unfolding differs_in
+  same-none same =
+      none-some_below 8 (λ index. not (eqb (get_or seen (line * 8 + index) 0) (get_or kept (line * 8 + index) 0)))
+      (λ index below.
+      ap not
+      (eq-eqb (get_or seen (line * 8 + index) 0) (get_or kept (line * 8 + index) 0)
+      (sym (part-at seen index below) ∙ ap (λ (words : List ℕ). get_or words index 0) same ∙ part-at kept index below)))
+
+  none-same : differs_in seen kept line ≡ false → part seen ≡ part kept
+  unfolding differs_in
+  none-same none =
+      ext_get_or 0 (part seen) (part kept) (simp (length-take, length-drop) (omega arith))
+      (λ index below.
+      let less : index < 8 = omega (arith, length-take count (drop (line * 8) seen)) in
+      let fails =
+      some_below-none 8 (λ index. not (eqb (get_or seen (line * 8 + index) 0) (get_or kept (line * 8 + index) 0))) none index less in
+      part-at seen index less ∙
+      eqb-true (get_or seen (line * 8 + index) 0) (get_or kept (line * 8 + index) 0) (not_false _ fails) ∙
+      sym (part-at kept index less))
+
+  different : (found : Bool) → differs_in seen kept line ≡ found → (part seen ≡ part kept → ◌≡◌ {A = Bool} false true) →
+      differs_in seen kept line ≡ true
+  different true is never = is
+  different false is never = is ∙ never (none-same is)
+
+  -- the line differs where its cells in the one are not those in the other
+  pub differs_by : (same : Bool) → Decides same (part seen ≡ part kept) → not same ≡ differs_in seen kept line
+  differs_by true decides = sym (same-none (decides.0 refl))
+  differs_by false decides = sym (different (differs_in seen kept line) refl decides.1)

@@ -4,65 +4,53 @@ use mathlib.Core.Path.{◌≡◌, refl, ap, ◌∙◌}
 use mathlib.Core.List.{List, [], ◌∷◌}
 use native.Mathlib.Numerals.{add-one}
 use native.Mathlib.Omega.{arith}
-use lib.ListN.{length, drop}
-use Rattle.scan.specs.Find.{index_of}
-use Rattle.machine.specs.Runs.{Reached}
-use Rattle.machine.specs.declared.Machine.{Machine}
+use lib.ListN.{length}
+use Rattle.std.specs.Prelude.{Option, Some, None}
+use Rattle.machine.specs.State.{Machine}
 use Rattle.script.specs.Script.{script_of}
-use Rattle.script.proofs.ScriptLaws.{script_reached}
-use Rattle.line.specs.Lines.{newline, first_line, lines_of}
+use Rattle.line.specs.Lines.{newline, after, first_line, lines_of}
 use Rattle.line.specs.declared.Line.{Line}
-use Rattle.line.specs.declared.Line.TheVariants.{Step, Undo, Unreadable}
+use Rattle.line.specs.declared.Line.TheVariants.{Step, Undo}
 use Rattle.listing.specs.Transcript.{start_machine}
-use Rattle.listing.proofs.InputLaws.{lent, lines_end, lines_at, step-read, line-within, lines-on}
-use Rattle.listing.proofs.Printing.{started-reached}
+use Rattle.listing.proofs.InputLaws.{lines_end, lines_at, after-shorter}
 use Rattle.claimed.specs.Verdict.{order_text, steps_text}
 use Rattle.claimed.specs.Read.{StepsTaken}
 
-pub record Taking (input : List ℕ) (machine : Machine) (number from : ℕ) : Type 0 where
-  pub reached : Reached machine
-  pub within : from ≤ length input
-  pub counted : number ≤ from + 1
-  pub left : steps_text start_machine 1 (lines_of input) ≡ steps_text machine number (lines_of (drop from input))
+pub record Taking (input : List ℕ) (machine : Machine) (number : ℕ) (rest : List ℕ) : Type 0 where
+  pub within : length rest ≤ length input
+  pub counted : number + length rest ≤ length input + 1
+  pub left : steps_text start_machine 1 (lines_of input) ≡ steps_text machine number (lines_of rest)
 
-pub taking_start : (input : List ℕ) {machine : Machine} → machine ≡ start_machine → Taking input machine 1 0
-taking_start input is =
-    record { reached = started-reached is; within = omega arith; counted = omega arith; left = rw is }
+pub taking_start : (input : List ℕ) {machine : Machine} → machine ≡ start_machine → Taking input machine 1 input
+taking_start input is = record { within = omega arith; counted = omega arith; left = rw is }
 
 -- from a line that says no step on, the order stands
-order_begins : (machine : Machine) (number : ℕ) (line : Line) (lines : List Line) → ((kind thread place value : ℕ) → line ≡ Step kind thread place value → ⊥) →
+order_begins : (machine : Machine) (number : ℕ) (line : Option Line) (lines : List (Option Line)) → ((kind thread place value : ℕ) → line ≡ Some (Step kind thread place value) → ⊥) →
     steps_text machine number (line ∷ lines) ≡ order_text machine [] number (line ∷ lines)
 unfolding steps_text
-order_begins machine number (Step kind thread place value) lines no_step = absurd (no_step kind thread place value refl)
-order_begins machine number (Undo thread rank) lines no_step = refl
-order_begins machine number Unreadable lines no_step = refl
+order_begins machine number (Some (Step kind thread place value)) lines no_step = absurd (no_step kind thread place value refl)
+order_begins machine number (Some (Undo thread rank)) lines no_step = refl
+order_begins machine number None lines no_step = refl
 
-module _ {input : List ℕ} {machine : Machine} {number from : ℕ} (at : Taking input machine number from) where
-  taken : steps_text machine number (lines_of (drop from input)) ≡ order_text machine [] number (lines_of (drop from input)) →
-      StepsTaken input machine number from
-  taken same = record { reached = at.reached; within = at.within; counted = at.counted; left = at.left ∙ same }
+module _ {input : List ℕ} {machine : Machine} {number : ℕ} {rest : List ℕ} (at : Taking input machine number rest) where
+  taken : steps_text machine number (lines_of rest) ≡ order_text machine [] number (lines_of rest) → StepsTaken input machine number rest
+  taken same = record { within = at.within; counted = at.counted; left = at.left ∙ same }
 
   -- at the end of the input the order has no line
-  pub taking-end : length input ≤ from → StepsTaken input machine number from
+  pub taking-end : length rest ≤ 0 → StepsTaken input machine number rest
   unfolding steps_text
-  taking-end none = taken (rw (lines_end input none))
+  taking-end none = taken (rw (lines_end rest none))
 
-  module _ (more : from < length input) {line : Line} (read : line ≡ first_line (lent from input)) where
-    pub taking-stops : ((kind thread place value : ℕ) → line ≡ Step kind thread place value → ⊥) → StepsTaken input machine number from
-    taking-stops no_step = taken (rw (lines_at input from more read) (order_begins machine number line _ no_step))
+  module _ (more : 0 < length rest) {line : Option Line} (read : line ≡ first_line rest) where
+    pub taking-stops : ((kind thread place value : ℕ) → line ≡ Some (Step kind thread place value) → ⊥) → StepsTaken input machine number rest
+    taking-stops no_step = taken (rw (lines_at rest more read) (order_begins machine number line _ no_step))
 
-    module _ {kind thread place value : ℕ} (says : line ≡ Step kind thread place value) {length' : ℕ}
-        (long : length' ≡ index_of newline (lent from input) + 1) where
-      pub step-within : from + length' ≤ length input
-      step-within = line-within input from more read (step-read says) long
-
-      pub taking_step : {after : Machine} → after ≡ (script_of machine kind thread place value).machine →
-          Taking input after (number + 1) (from + length')
-      unfolding steps_text
-      taking_step is = record {
-        reached = rw is (script_reached machine kind thread place value at.reached);
-        within = step-within;
-        counted = omega (arith, at.counted);
-        left =
-            at.left ∙ ap (steps_text machine number) (lines-on input from more read (step-read says) long) ∙ rw (says, is, add-one number);
-      }
+    pub taking_step : {kind thread place value : ℕ} → line ≡ Some (Step kind thread place value) → {next : Machine} →
+        next ≡ (script_of machine kind thread place value).machine → {rest' : List ℕ} → rest' ≡ after newline rest →
+        Taking input next (number + 1) rest'
+    unfolding steps_text
+    taking_step {kind} {thread} {place} {value} says is left = record {
+      within = omega (arith, at.within, ap length left, after-shorter rest more);
+      counted = omega (arith, at.counted, ap length left, after-shorter rest more);
+      left = at.left ∙ ap (steps_text machine number) (lines_at rest more read) ∙ rw (says, is, left, add-one number);
+    }

@@ -1,275 +1,194 @@
 // The machine and the model, side by side.
-ghost use Rattle.std.specs.Prelude.{◌≡◌, length};
-ghost use Rattle.machine.specs.Runs.{Reached};
+ghost use Rattle.std.specs.Prelude.{◌≤◌};
 
 use crate::calls::called_alike;
-use crate::damage::damage;
-use crate::listings::{STEPS, Step, next, put, step_of};
-use crate::model::history;
-use crate::tally::COUNTS;
-use crate::undo_orders::{CHANGES, orders_alike};
-use crate::{model, tally};
-use answer::Answer;
-use kinds::{FENCE, LOG};
+use crate::damage::damaged;
+use crate::listings::{STEPS, next};
+use crate::model;
+use crate::model::history::{Kind, Step};
+use crate::model::{Asked, Run};
+use crate::tally::Tally;
+use crate::undo_orders::orders_alike;
+use answer::{Answer, Refusal};
 use machine::Machine;
 use reader::IMAGE_WORDS;
 use sizes::CELLS;
 use step::step;
 
-// What every cell holds at the start.
-pub(crate) const START: u64 = 4294967291;
+// The start cells.
+pub(crate) const START: [u64; CELLS] = [4294967291; CELLS];
 
 // What a lent buffer holds before a recovery.
 const UNTOUCHED: u64 = 4294967279;
 
-// The number of no answer: the machine's and the model's are not the same.
-pub(crate) const DIFFERENT: u64 = 99;
+// The cells of buffers of a wrong length.
+const TOO_FEW: usize = CELLS - 1;
 
-// The words of a history: the steps of a listing, and those of a call tried after them.
-pub(crate) const PAST: usize = 872;
+const TOO_MANY: usize = CELLS + 1;
 
-// The two lists are the same.
-pub(crate) fn same(one: &[u64], other: &[u64]) -> bool {
-    if one.len() != other.len() {
-        return false;
-    }
-    let mut i = 0;
-    while i < one.len() {
-        if one[i] != other[i] {
-            return false;
-        }
-        i += 1;
-    }
-    true
+// The steps that a history has room for: those of a listing, and those of a call tried after them.
+const MOST: usize = 218;
+
+// The accepted steps so far: an array with its count, for there is no heap.
+#[derive(Clone, Copy)]
+pub(crate) struct Past {
+    steps: [Step; MOST],
+    count: usize,
 }
 
-// Adds a step to the accepted ones, where its answer says so and there is room; answers how many they are.
-fn push(past: &mut [u64], accepted: usize, answer: Answer, step: Step) -> usize {
-    if answer::number(answer) != 0 {
-        return accepted;
-    }
-    if accepted < STEPS {
-        put(past, accepted, step);
-        return accepted + 1;
-    }
-    accepted
-}
+impl Past {
+    // No steps.
+    const NONE: Past = Past {
+        steps: [Step::NONE; MOST],
+        count: 0,
+    };
 
-// Counts a LOG that is accepted and finds its cell with an entry in the current region.
-fn note_again(met: &mut [u64; COUNTS], past: &[u64], thread: u64, cell: u64) {
-    if model::has_entry(past, thread, cell) {
-        tally::add_again(
-            met,
-            model::is_stored_since_entry(past, thread, cell),
-            model::has_full_log(past, thread),
-        );
+    // The steps.
+    pub(crate) fn taken(&self) -> &[Step] {
+        self.steps.get(..self.count).unwrap_or(&self.steps)
     }
-}
 
-// Counts an accepted EVICTCELL that alters what is kept, and an accepted EVICTWORDS by its words.
-fn note_evicted(met: &mut [u64; COUNTS], start: &[u64], past: &[u64], step: Step) {
-    if step.kind == history::EVICTCELL {
-        if model::is_unkept(start, past, step.place) {
-            tally::add_cell(met);
+    // The run that they are.
+    pub(crate) fn run(&self) -> Run<'_> {
+        Run {
+            start: &START,
+            past: self.taken(),
         }
     }
-    if step.kind == history::EVICTWORDS {
-        tally::add_words(met, step.value);
+
+    // Adds a step, where there is room and its input is not refused.
+    pub(crate) fn push(&mut self, asked: Asked) {
+        if let Ok(step) = model::read(asked) {
+            if self.count < MOST {
+                self.steps[self.count] = step;
+                self.count += 1;
+            }
+        }
     }
 }
 
-// Counts a step's answer; a LOG's that is refused by 8 beside a full log; a LOG's that is accepted and makes no entry; and a FENCE's that
-// is accepted, by what it carried.
-fn note(met: &mut [u64; COUNTS], past: &[u64], kind: u64, thread: u64, place: u64, answer: u64) {
-    tally::add_answer(met, kind, answer);
-    if kind == LOG && answer == 8 {
-        if model::has_full_log(past, thread) {
-            tally::add_crowded(met);
+// The refusals have one number.
+pub(crate) fn is_refused_alike(refusal: Refusal, other: model::Refusal) -> bool {
+    u64::from(refusal) == other as u64
+}
+
+// The machine's answer is the model's, with the number that it gives.
+pub(crate) fn is_answered_alike(answer: Answer, other: Result<u64, model::Refusal>) -> bool {
+    match (answer, other) {
+        (Ok(given), Ok(number)) => given == number,
+        (Err(refusal), Err(other)) => is_refused_alike(refusal, other),
+        _ => false,
+    }
+}
+
+// Counts a step's answer; a LOG's that is refused by 8 beside a full log; a LOG's that is accepted and makes no entry; a FENCE's that is
+// accepted, by what it carried; an accepted EVICTCELL that alters what is kept; and an accepted EVICTWORDS by its words.
+fn note(met: &mut Tally, run: Run, asked: Asked, answer: Result<u64, model::Refusal>) {
+    met.add_answer(asked, answer);
+    let Ok(step) = model::read(asked) else {
+        return;
+    };
+    let past = run.past;
+    let thread = step.thread;
+    match (step.kind, answer) {
+        (Kind::Log, Err(model::Refusal::Races)) => {
+            if model::has_full_log(past, thread) {
+                met.add_crowded();
+            }
         }
-    }
-    if kind == LOG && answer == 0 {
-        note_again(met, past, thread, place);
-    }
-    if kind == FENCE && answer == 0 {
-        tally::add_fence(
-            met,
+        (Kind::Log, Ok(_)) => {
+            if model::has_entry(past, thread, step.place) {
+                met.add_again(
+                    model::is_stored_since_entry(past, thread, step.place),
+                    model::has_full_log(past, thread),
+                );
+            }
+        }
+        (Kind::Fence, Ok(_)) => met.add_fence(
             model::has_marked_line(past, thread),
             model::has_unfenced_entry(past, thread),
-        );
+        ),
+        (Kind::EvictCell, Ok(_)) => {
+            if model::is_unkept(run, step.place) {
+                met.add_unkept();
+            }
+        }
+        (Kind::EvictWords, Ok(_)) => met.add_words(step.value),
+        _ => {}
     }
 }
 
-// The model judges the step after this history as the machine did.
-fn judged(past: &[u64], step: Step, answer: Answer, met: &mut [u64; COUNTS]) -> bool {
-    let start = [START; CELLS];
-    let number = answer::number(answer);
-    note(met, past, step.kind, step.thread, step.place, number);
-    if number == 0 {
-        note_evicted(met, &start, past, step);
-    }
-    let verdict = model::judge(&start, past, step.kind, step.thread, step.place, step.value);
-    verdict.answer == number && verdict.number == answer::value(answer)
+// The model judges the step after this run as the machine did.
+fn judged_alike(run: Run, asked: Asked, answer: Answer, met: &mut Tally) -> bool {
+    let verdict = model::judge(run, asked);
+    note(met, run, asked, verdict);
+    is_answered_alike(answer, verdict)
 }
 
-// The model judges the step as the machine did, after a history that is the first accepted steps of a list.
-fn judged_alike(
-    past: &[u64],
-    accepted: usize,
-    step: Step,
-    answer: Answer,
-    met: &mut [u64; COUNTS],
-) -> bool {
-    if past.len() / 4 < accepted {
-        return false;
-    }
-    let end = accepted * 4;
-    judged(&past[..end], step, answer, met)
-}
-
-// The answer of both recoveries of the image into these buffers, where they give the same one and leave the same words.
-fn recovered_into(image: &[u64], cells: &mut [u64], others: &mut [u64]) -> u64 {
-    let answer = recovery::recover(image, cells);
-    let number = model::recover(image, others);
-    if answer::number(answer) != number {
-        return DIFFERENT;
-    }
-    if same(cells, others) {
-        return number;
-    }
-    DIFFERENT
-}
-
-// The answer of both recoveries of the image.
-fn recovered(image: &[u64]) -> u64 {
-    let mut cells = [UNTOUCHED; CELLS];
-    let mut others = [UNTOUCHED; CELLS];
-    recovered_into(image, &mut cells, &mut others)
-}
-
-// The answer of both recoveries of the image into buffers that are a word too short.
-fn recovered_short(image: &[u64]) -> u64 {
-    let mut cells = [UNTOUCHED; CELLS - 1];
-    let mut others = [UNTOUCHED; CELLS - 1];
-    recovered_into(image, &mut cells, &mut others)
-}
-
-// The answer of both recoveries of the image into buffers that are a word too long.
-fn recovered_long(image: &[u64]) -> u64 {
-    let mut cells = [UNTOUCHED; CELLS + 1];
-    let mut others = [UNTOUCHED; CELLS + 1];
-    recovered_into(image, &mut cells, &mut others)
+// The answer of both recoveries of the image into buffers of this length, where they give the same one and leave the same words.
+fn recovered<const LENGTH: usize>(image: &[u64]) -> Option<Result<(), model::Refusal>>
+    requires { LENGTH ≤ 129 }
+{
+    let mut cells = [UNTOUCHED; LENGTH];
+    let mut others = [UNTOUCHED; LENGTH];
+    let answer = recovery::recover(image, &mut cells);
+    let verdict = model::recover(image, &mut others);
+    let is_alike = is_answered_alike(answer, verdict.map(|_| 0)) && cells == others;
+    is_alike.then_some(verdict)
 }
 
 // The answer of both recoveries of the image, now and then into buffers that are a word too short or too long.
-fn recovered_somehow(image: &[u64], chance: u64) -> u64 {
-    if chance % 32 == 0 {
-        return recovered_short(image);
+fn recovered_somehow(image: &[u64], chance: u64) -> Option<Result<(), model::Refusal>> {
+    match chance % 32 {
+        0 => recovered::<TOO_FEW>(image),
+        1 => recovered::<TOO_MANY>(image),
+        _ => recovered::<CELLS>(image),
     }
-    if chance % 32 == 1 {
-        return recovered_long(image);
-    }
-    recovered(image)
 }
 
 // An image's length, or now and then a word less or more.
-fn image_words(chance: u64) -> usize {
-    if chance % 32 == 0 {
-        return IMAGE_WORDS - 1;
-    }
-    if chance % 32 == 1 {
-        return IMAGE_WORDS + 1;
-    }
-    IMAGE_WORDS
-}
-
-// The image and one word more.
-fn widened(image: &[u64; IMAGE_WORDS]) -> [u64; IMAGE_WORDS + 1]
-    ensures { 1157 ≡ length result }
+fn image_words(chance: u64) -> usize
+    ensures { result ≤ 1157 }
 {
-    let mut wide = [0u64; IMAGE_WORDS + 1];
-    let mut word = 0;
-    while word < IMAGE_WORDS {
-        wide[word] = image[word];
-        word += 1;
+    match chance % 32 {
+        0 => IMAGE_WORDS - 1,
+        1 => IMAGE_WORDS + 1,
+        _ => IMAGE_WORDS,
     }
-    wide
 }
 
-// The machine's image is the model's after this history.
-pub(crate) fn is_image(image: &[u64], past: &[u64]) -> bool {
-    let start = [START; CELLS];
-    let mut other = [0u64; IMAGE_WORDS];
-    model::cut(&start, past, &mut other);
-    same(image, &other)
-}
-
-// The same, and counts the cut where the image has a torn entry.
-fn is_counted_image(image: &[u64], past: &[u64], met: &mut [u64; COUNTS]) -> bool {
-    tally::add_torn(
-        met,
-        model::has_torn_entry(past, false),
-        model::has_torn_entry(past, true),
+// The machine's image is the model's after this run; counts the cut where the image has a torn entry.
+fn image_alike(image: &[u64; IMAGE_WORDS], run: Run, met: &mut Tally) -> bool {
+    met.add_torn(
+        model::has_torn_entry(run.past, false),
+        model::has_torn_entry(run.past, true),
     );
-    is_image(image, past)
+    *image == model::image(run)
 }
 
-// The machine's image is the model's, after a history that is the first accepted steps of a list.
-fn image_alike(image: &[u64], past: &[u64], accepted: usize, met: &mut [u64; COUNTS]) -> bool {
-    if past.len() / 4 < accepted {
-        return false;
-    }
-    let end = accepted * 4;
-    is_counted_image(image, &past[..end], met)
-}
-
-// Counts an answer of recovery, and says whether it is one.
-fn noted(met: &mut [u64; COUNTS], is_damaged: bool, answer: u64) -> bool {
-    if answer == DIFFERENT {
-        return false;
-    }
-    tally::add_recovered(met, is_damaged, answer);
-    true
-}
-
-// Both recoveries take an image's first words alike, now and then into buffers that are a word too short or too long, and so do both
-// checkers.
-fn part_alike(image: &[u64], words: usize, chance: u64, met: &mut [u64; COUNTS]) -> bool {
-    if image.len() < words {
-        return false;
-    }
-    let part = &image[..words];
-    if !noted(met, true, recovered_somehow(part, chance)) {
-        return false;
-    }
-    orders_alike(part, CHANGES, chance, met)
-}
-
-// The same for the image once it is damaged.
-fn damaged_alike(image: &[u64; IMAGE_WORDS], chance: u64, met: &mut [u64; COUNTS]) -> bool {
-    let mut wide = widened(image);
-    damage(&mut wide, chance);
+// Both recoveries take the damaged image's first words alike, now and then into buffers that are a word too short or too long, and so do
+// both checkers.
+fn damaged_alike(image: &[u64; IMAGE_WORDS], chance: u64, met: &mut Tally) -> bool {
+    let wide = damaged(image, chance);
     let other = next(chance);
-    part_alike(&wide, image_words(other / 7), other / 3, met)
+    let part = &wide[..image_words(other / 7)];
+    let Some(answer) = recovered_somehow(part, other / 3) else {
+        return false;
+    };
+    met.add_recovered(true, answer);
+    orders_alike(part, true, other / 3, met)
 }
 
 // The machine's image of a cut is the model's, and both recover it and mark its undo orders alike, as it is and damaged.
-fn cut_alike(
-    image: &[u64; IMAGE_WORDS],
-    past: &[u64],
-    accepted: usize,
-    chance: u64,
-    met: &mut [u64; COUNTS],
-) -> bool {
-    if !image_alike(image, past, accepted, met) {
+fn cut_alike(image: &[u64; IMAGE_WORDS], run: Run, chance: u64, met: &mut Tally) -> bool {
+    if !image_alike(image, run, met) {
         return false;
     }
-    if !noted(met, false, recovered(image)) {
+    let Some(answer) = recovered::<CELLS>(image) else {
         return false;
-    }
-    if !orders_alike(image, 0, chance, met) {
-        return false;
-    }
-    damaged_alike(image, chance, met)
+    };
+    met.add_recovered(false, answer);
+    orders_alike(image, false, chance, met) && damaged_alike(image, chance, met)
 }
 
 // The machine's image of every fifth cut is the model's, and both recover it and mark its undo orders alike, as it is and damaged; other
@@ -278,45 +197,37 @@ fn fifth_alike(
     number: usize,
     seed: u64,
     image: &[u64; IMAGE_WORDS],
-    past: &[u64],
-    accepted: usize,
-    met: &mut [u64; COUNTS],
+    run: Run,
+    met: &mut Tally,
 ) -> bool {
-    if number % 5 == 0 {
-        let chance = next(seed % 1000000 * 1000 + (number % 1000) as u64);
-        return cut_alike(image, past, accepted, next(chance), met);
+    if number % 5 != 0 {
+        return true;
     }
-    true
+    let chance = next(seed % 1000000 * 1000 + (number % 1000) as u64);
+    cut_alike(image, run, next(chance), met)
 }
 
 // The image of a cut of the machine.
-pub(crate) fn image_of(machine: Machine) -> [u64; IMAGE_WORDS]
-    requires { Reached machine }
-{
+pub(crate) fn image_of(machine: Machine) -> [u64; IMAGE_WORDS] {
     let mut image = [0u64; IMAGE_WORDS];
-    machine.cut(&mut image);
+    let _ = machine.cut(&mut image);
     image
 }
 
 // The machine and the model take the steps alike, cut before every fifth of them and after the last, with a call before every 25th that
 // logs many cells.
-pub(crate) fn run_alike(steps: &[u64], seed: u64, met: &mut [u64; COUNTS]) -> bool {
-    let start = [START; CELLS];
-    let started = Machine::start(&start);
+pub(crate) fn run_alike(steps: &[Asked], seed: u64, met: &mut Tally) -> bool {
+    let started = Machine::start(&START);
     let mut machine = started.machine;
-    let mut past = [0u64; PAST];
-    let mut accepted: usize = 0;
-    let count = steps.len() / 4;
-    let mut done = 0;
-    while done < count {
+    let mut past = Past::NONE;
+    for (done, wanted) in steps.iter().enumerate() {
         let image = image_of(machine);
-        if !fifth_alike(done, seed, &image, &past, accepted, met) {
+        if !fifth_alike(done, seed, &image, past.run(), met) {
             return false;
         }
-        if !called_alike(done, seed, machine, past, accepted, met) {
+        if !called_alike(done, seed, machine, past, met) {
             return false;
         }
-        let wanted = step_of(steps, done);
         let stepped = step(
             machine,
             wanted.kind,
@@ -324,14 +235,14 @@ pub(crate) fn run_alike(steps: &[u64], seed: u64, met: &mut [u64; COUNTS]) -> bo
             wanted.place,
             wanted.value,
         );
-        let answer = stepped.answer;
         machine = stepped.machine;
-        if !judged_alike(&past, accepted, wanted, answer, met) {
+        if !judged_alike(past.run(), *wanted, stepped.answer, met) {
             return false;
         }
-        accepted = push(&mut past, accepted, answer, wanted);
-        done += 1;
+        if stepped.answer.is_ok() {
+            past.push(*wanted);
+        }
     }
     let last = image_of(machine);
-    fifth_alike(STEPS, seed, &last, &past, accepted, met)
+    fifth_alike(STEPS, seed, &last, past.run(), met)
 }

@@ -1,5 +1,8 @@
-// Listings that are generated from a number. Four words a step: kind, thread, place, value.
-ghost use Rattle.std.specs.Prelude.{◌≡◌, length};
+// Listings that are generated from a number.
+ghost use Rattle.std.specs.Prelude.{◌<◌, length};
+
+use crate::model::Asked;
+use crate::model::history::Kind;
 
 // The steps of a generated listing.
 pub(crate) const STEPS: usize = 200;
@@ -7,121 +10,206 @@ pub(crate) const STEPS: usize = 200;
 // The longest list of cells that a call is tried with: two more than it may have.
 pub(crate) const LISTED: usize = 18;
 
-// The steps of a thread's two or three regions, after which it goes on with other places. Among them are an EVICTWORDS before the entries
-// are firm, and an EVICTCELL before the cell is.
-const STAGES: usize = 26;
-
 // The largest number that a field can be given.
 pub(crate) const LARGE: u64 = 18446744073709551615;
 
-// A step's four words.
+// A stage of a thread's regions: a step of the region's own cell, line or lock, or of the next one.
 #[derive(Clone, Copy)]
-pub(crate) struct Step {
-    pub(crate) kind: u64,
-    pub(crate) thread: u64,
-    pub(crate) place: u64,
-    pub(crate) value: u64,
+enum Stage {
+    Own(Kind),
+    Next(Kind),
 }
 
-// A word of a list, and 0 past its end.
-fn word(words: &[u64], index: usize) -> u64 {
-    if index < words.len() { words[index] } else { 0 }
-}
+// The steps of a thread's two or three regions, after which it goes on with other places. Among them are an EVICTWORDS before the entries
+// are firm, and an EVICTCELL before the cell is.
+type Stages = [Stage; 26];
 
-// A step of a list of steps; four zeros where there is none.
-pub(crate) fn step_of(steps: &[u64], number: usize) -> Step {
-    let at = number % 1000000 * 4;
-    Step {
-        kind: word(steps, at),
-        thread: word(steps, at + 1),
-        place: word(steps, at + 2),
-        value: word(steps, at + 3),
-    }
-}
+// A region's steps from its ACQUIRE to its PRUNE, and then another's.
+const PLAIN: Stages = [
+    Stage::Own(Kind::Acquire),
+    Stage::Own(Kind::Log),
+    Stage::Own(Kind::EvictWords),
+    Stage::Own(Kind::FlushLog),
+    Stage::Own(Kind::Fence),
+    Stage::Own(Kind::Store),
+    Stage::Own(Kind::EvictCell),
+    Stage::Own(Kind::LogRel),
+    Stage::Own(Kind::FlushLog),
+    Stage::Own(Kind::Fence),
+    Stage::Own(Kind::Release),
+    Stage::Own(Kind::Flush),
+    Stage::Own(Kind::Fence),
+    Stage::Own(Kind::Prune),
+    Stage::Next(Kind::Acquire),
+    Stage::Next(Kind::Log),
+    Stage::Own(Kind::FlushLog),
+    Stage::Own(Kind::Fence),
+    Stage::Next(Kind::Store),
+    Stage::Next(Kind::LogRel),
+    Stage::Own(Kind::FlushLog),
+    Stage::Own(Kind::Fence),
+    Stage::Next(Kind::Release),
+    Stage::Next(Kind::Flush),
+    Stage::Own(Kind::Fence),
+    Stage::Own(Kind::Prune),
+];
 
-// Writes a word at a place of a list, where there is one.
-pub(crate) fn set(words: &mut [u64], index: usize, new: u64) {
-    if index < words.len() {
-        words[index] = new;
-    }
-}
+// Two regions with PRUNEs before the first is finished, and before its cell is firm; the second one stores nothing.
+const HASTY: Stages = [
+    Stage::Own(Kind::Acquire),
+    Stage::Own(Kind::Log),
+    Stage::Own(Kind::EvictWords),
+    Stage::Own(Kind::FlushLog),
+    Stage::Own(Kind::Fence),
+    Stage::Own(Kind::Store),
+    Stage::Own(Kind::EvictCell),
+    Stage::Own(Kind::LogRel),
+    Stage::Own(Kind::Prune),
+    Stage::Own(Kind::FlushLog),
+    Stage::Own(Kind::Fence),
+    Stage::Own(Kind::Release),
+    Stage::Own(Kind::Prune),
+    Stage::Own(Kind::Flush),
+    Stage::Own(Kind::Fence),
+    Stage::Own(Kind::Prune),
+    Stage::Next(Kind::Acquire),
+    Stage::Next(Kind::Log),
+    Stage::Next(Kind::LogRel),
+    Stage::Next(Kind::Log),
+    Stage::Own(Kind::FlushLog),
+    Stage::Own(Kind::Fence),
+    Stage::Next(Kind::Release),
+    Stage::Own(Kind::Prune),
+    Stage::Own(Kind::Load),
+    Stage::Next(Kind::Load),
+];
 
-// Writes a step at a place of a list of steps.
-pub(crate) fn put(steps: &mut [u64], number: usize, step: Step) {
-    let at = number % 1000000 * 4;
-    set(steps, at, step.kind);
-    set(steps, at + 1, step.thread);
-    set(steps, at + 2, step.place);
-    set(steps, at + 3, step.value);
-}
+// A region that the next ACQUIRE ends, with a PRUNE before it is firm; one under both locks; and one of a RELEASE alone.
+const NESTED: Stages = [
+    Stage::Own(Kind::Acquire),
+    Stage::Own(Kind::Log),
+    Stage::Own(Kind::EvictWords),
+    Stage::Next(Kind::Acquire),
+    Stage::Own(Kind::Prune),
+    Stage::Own(Kind::FlushLog),
+    Stage::Own(Kind::Fence),
+    Stage::Next(Kind::Log),
+    Stage::Own(Kind::FlushLog),
+    Stage::Own(Kind::Fence),
+    Stage::Next(Kind::Store),
+    Stage::Next(Kind::EvictCell),
+    Stage::Next(Kind::LogRel),
+    Stage::Own(Kind::FlushLog),
+    Stage::Own(Kind::Fence),
+    Stage::Next(Kind::Release),
+    Stage::Own(Kind::LogRel),
+    Stage::Own(Kind::FlushLog),
+    Stage::Own(Kind::Fence),
+    Stage::Own(Kind::Release),
+    Stage::Next(Kind::Flush),
+    Stage::Own(Kind::Fence),
+    Stage::Own(Kind::Prune),
+    Stage::Own(Kind::Prune),
+    Stage::Own(Kind::Prune),
+    Stage::Own(Kind::Load),
+];
+
+// The kinds of steps that are drawn, some more often than others.
+const KINDS: [Kind; 17] = [
+    Kind::Load,
+    Kind::Log,
+    Kind::Log,
+    Kind::EvictLog,
+    Kind::Store,
+    Kind::Store,
+    Kind::EvictLog,
+    Kind::Acquire,
+    Kind::LogRel,
+    Kind::Release,
+    Kind::Flush,
+    Kind::FlushLog,
+    Kind::Fence,
+    Kind::Prune,
+    Kind::EvictCell,
+    Kind::EvictCell,
+    Kind::EvictWords,
+];
+
+// Those of a thread with a full log: that make an entry or free some, and evictions.
+const CROWDED: [Kind; 16] = [
+    Kind::Log,
+    Kind::Log,
+    Kind::Log,
+    Kind::Acquire,
+    Kind::LogRel,
+    Kind::Release,
+    Kind::FlushLog,
+    Kind::Fence,
+    Kind::Prune,
+    Kind::Log,
+    Kind::Store,
+    Kind::Prune,
+    Kind::EvictWords,
+    Kind::EvictLog,
+    Kind::EvictWords,
+    Kind::EvictWords,
+];
+
+// How many words an EVICTWORDS keeps, now and then none or one too many.
+const WORDS: [u64; 10] = [0, 1, 2, 3, 4, 5, 1, 2, 3, 4];
+
+// The last number that a step can have as place, by the number of its kind.
+const LAST_PLACES: [u64; 15] = [0, 127, 127, 127, 7, 7, 7, 15, 0, 0, 0, 0, 63, 127, 63];
 
 // The next of a row of numbers that look random.
 pub(crate) fn next(seed: u64) -> u64 {
     seed % 2147483647 * 48271 % 2147483647
 }
 
-// A kind of step, some more often than others.
-fn kind_of(chance: u64) -> u64 {
-    let kinds = [1u64, 2, 2, 12, 3, 3, 12, 4, 5, 6, 7, 8, 9, 10, 13, 13, 14];
-    let at = (chance % 17) as usize;
-    kinds[at]
+// One of the list, drawn by chance.
+pub(crate) fn pick<T: Copy>(list: &[T], chance: u64) -> T
+    requires { 0 < length list.now }
+{
+    list[chance as usize % list.len()]
 }
 
 // A place for a kind: one of four cells in two lines, of two locks, of two lines or of eight slots, which are enough for most logs.
-fn place_of(kind: u64, chance: u64) -> u64 {
-    if kind < 4 || kind == 13 {
-        return chance % 2 * 8 + chance / 2 % 2;
+fn place_of(kind: Kind, chance: u64) -> u64 {
+    match kind {
+        Kind::Load | Kind::Log | Kind::Store | Kind::EvictCell => chance % 2 * 8 + chance / 2 % 2,
+        Kind::Acquire | Kind::LogRel | Kind::Release | Kind::Flush => chance % 2,
+        Kind::EvictLog | Kind::EvictWords => chance % 8,
+        Kind::FlushLog | Kind::Fence | Kind::Prune => 0,
     }
-    if kind < 8 {
-        return chance % 2;
-    }
-    if kind == 12 || kind == 14 {
-        return chance % 8;
-    }
-    0
 }
 
-// A value for a kind: what a STORE sets, or how many words an EVICTWORDS keeps, now and then none or one too many.
-fn value_of(kind: u64, chance: u64) -> u64 {
-    if kind == 14 {
-        let words = [0u64, 1, 2, 3, 4, 5, 1, 2, 3, 4];
-        let at = (chance % 10) as usize;
-        return words[at];
+// A value for a kind: what a STORE sets, or how many words an EVICTWORDS keeps.
+fn value_of(kind: Kind, chance: u64) -> u64 {
+    match kind {
+        Kind::EvictWords => pick(&WORDS, chance),
+        Kind::Store => chance % 1000,
+        _ => 0,
     }
-    if kind == 3 { chance % 1000 } else { 0 }
 }
 
-// A thread for a kind.
-fn thread_of(kind: u64, chance: u64) -> u64 {
-    if kind == 13 {
-        return 0;
+// A thread for a kind: an EVICTCELL has none. `pace` asks the same of the machine's kinds, which the model does not name.
+fn thread_of(kind: Kind, chance: u64) -> u64 {
+    match kind {
+        Kind::EvictCell => 0,
+        _ => chance % 4,
     }
-    chance % 4
 }
 
-// A step of any kind.
-fn any_step(chance: u64) -> Step {
-    let kind = kind_of(chance / 7);
+// A step of the kind.
+fn step_of(kind: Kind, chance: u64) -> Asked {
     let second = next(chance);
     let third = next(second);
-    Step {
-        kind,
+    Asked {
+        kind: kind as u64,
         thread: thread_of(kind, chance / 11),
         place: place_of(kind, second / 13),
         value: value_of(kind, third / 5),
     }
-}
-
-// The last number that a step of the kind can have as place.
-fn last_place(kind: u64) -> u64 {
-    let last = [0u64, 127, 127, 127, 7, 7, 7, 15, 0, 0, 0, 0, 63, 127, 63];
-    let at = (kind % 15) as usize;
-    last[at]
-}
-
-// The last number that a step of the kind can have as value, but for STORE, which can have any.
-fn last_value(kind: u64) -> u64 {
-    if kind == 14 { 4 } else { 0 }
 }
 
 // A cell of a call that logs many: now and then one of the four that listings use most, or one at or past the last; else any other.
@@ -130,7 +218,7 @@ fn listed_cell(chance: u64) -> u64 {
         return edge(127, chance / 64);
     }
     if chance % 16 == 1 {
-        return place_of(2, chance / 16);
+        return place_of(Kind::Log, chance / 16);
     }
     16 + chance / 16 % 112
 }
@@ -144,16 +232,12 @@ pub(crate) fn calling_thread(chance: u64) -> u64 {
 }
 
 // The cells of a call that logs many, of which it may name fewer.
-pub(crate) fn listed_cells(seed: u64) -> [u64; LISTED]
-    ensures { 18 ≡ length result }
-{
+pub(crate) fn listed_cells(seed: u64) -> [u64; LISTED] {
     let mut cells = [0u64; LISTED];
     let mut chance = next(seed);
-    let mut index: usize = 0;
-    while index < LISTED {
-        cells[index] = listed_cell(chance);
+    for cell in cells.iter_mut() {
+        *cell = listed_cell(chance);
         chance = next(chance);
-        index += 1;
     }
     cells
 }
@@ -172,8 +256,7 @@ fn edge(last: u64, chance: u64) -> u64 {
         4294967296 + end,
         LARGE,
     ];
-    let at = (chance % 8) as usize;
-    numbers[at]
+    pick(&numbers, chance)
 }
 
 // A kind that is none, but for 14, which is the last one.
@@ -184,36 +267,42 @@ fn edge_kind(chance: u64) -> u64 {
     edge(14, chance / 4)
 }
 
-// The step with one field at or past the end of its range, used or not.
-fn spoiled(mut step: Step, chance: u64) -> Step {
-    let field = chance / 3 % 4;
-    if field == 0 {
-        step.kind = edge_kind(chance / 13);
-    } else if field == 1 {
-        step.thread = edge(3, chance / 13);
-    } else if field == 2 {
-        step.place = edge(last_place(step.kind), chance / 13);
+// The last number that a step can have as value, but for STORE, which can have any. By the kind's number, which can be that of no kind.
+fn last_value(kind: u64) -> u64 {
+    if kind == Kind::EvictWords as u64 {
+        4
     } else {
-        step.value = edge(last_value(step.kind), chance / 13);
+        0
+    }
+}
+
+// The step with one field at or past the end of its range, used or not.
+fn spoiled(mut step: Asked, chance: u64) -> Asked {
+    match chance / 3 % 4 {
+        0 => step.kind = edge_kind(chance / 13),
+        1 => step.thread = edge(3, chance / 13),
+        2 => step.place = edge(pick(&LAST_PLACES, step.kind), chance / 13),
+        _ => step.value = edge(last_value(step.kind), chance / 13),
     }
     step
 }
 
 // A step of any number from 1 to 14, each as often as the others; 11 is no kind's.
-fn even_step(chance: u64) -> Step {
-    let kind = chance / 7 % 14 + 1;
-    let second = next(chance);
-    let third = next(second);
-    Step {
-        kind,
-        thread: thread_of(kind, chance / 11),
-        place: place_of(kind, second / 13),
-        value: value_of(kind, third / 5),
+fn even_step(chance: u64) -> Asked {
+    let number = chance / 7 % 14 + 1;
+    match Kind::try_from(number) {
+        Ok(kind) => step_of(kind, chance),
+        Err(_) => Asked {
+            kind: number,
+            thread: chance / 11 % 4,
+            place: 0,
+            value: 0,
+        },
     }
 }
 
 // A step of any kind with one field or two at or past the end of their range.
-fn spoiled_step(chance: u64) -> Step {
+fn spoiled_step(chance: u64) -> Asked {
     let second = next(chance);
     let step = spoiled(even_step(chance), second);
     if chance / 5 % 3 == 0 {
@@ -222,106 +311,66 @@ fn spoiled_step(chance: u64) -> Step {
     step
 }
 
-// A region's steps from its ACQUIRE to its PRUNE, and then another's. A hundred more: the step is of the other cell, line or lock.
-fn plain_stage(stage: usize) -> u64 {
-    let kinds = [
-        4u64, 2, 14, 8, 9, 3, 13, 5, 8, 9, 6, 7, 9, 10, 104, 102, 8, 9, 103, 105, 8, 9, 106, 107,
-        9, 10,
-    ];
-    kinds[stage % STAGES]
-}
-
-// Two regions with PRUNEs before the first is finished, and before its cell is firm; the second one stores nothing.
-fn hasty_stage(stage: usize) -> u64 {
-    let kinds = [
-        4u64, 2, 14, 8, 9, 3, 13, 5, 10, 8, 9, 6, 10, 7, 9, 10, 104, 102, 105, 102, 8, 9, 106, 10,
-        1, 101,
-    ];
-    kinds[stage % STAGES]
-}
-
-// A region that the next ACQUIRE ends, with a PRUNE before it is firm; one under both locks; and one of a RELEASE alone.
-fn nested_stage(stage: usize) -> u64 {
-    let kinds = [
-        4u64, 2, 14, 104, 10, 8, 9, 102, 8, 9, 103, 113, 105, 8, 9, 106, 5, 8, 9, 6, 107, 9, 10,
-        10, 10, 1,
-    ];
-    kinds[stage % STAGES]
-}
-
-// The stage of a listing's regions.
-fn stage_of(listing: u64, stage: usize) -> u64 {
-    let list = listing / 3 % 3;
-    if list == 0 {
-        return plain_stage(stage);
+// The stages of a listing's regions.
+fn stages_of(listing: u64) -> Stages {
+    match listing / 3 % 3 {
+        0 => PLAIN,
+        1 => HASTY,
+        _ => NESTED,
     }
-    if list == 1 {
-        return hasty_stage(stage);
-    }
-    nested_stage(stage)
 }
 
-// The place of a thread's step: each region has the next cell of four, with its line, and the next lock of two. A slot is drawn, since it
-// depends on the answers which slots the region's entries have.
-fn region_place(kind: u64, region: usize, chance: u64) -> u64 {
-    if kind == 14 {
-        return place_of(kind, chance);
-    }
-    let number = (region % 4) as u64;
-    place_of(kind, number)
-}
-
-// A thread's next step of its regions.
-fn region_step(listing: u64, thread: usize, stage: usize, chance: u64) -> Step {
-    let code = stage_of(listing, stage);
-    let kind = code % 100;
-    let region = thread % 4 + stage / STAGES * 2 + (code / 100) as usize;
-    Step {
-        kind,
-        thread: thread_of(kind, thread as u64),
-        place: region_place(kind, region, chance / 13),
+// A thread's next step of its regions, after so many. Each region has the next cell of four, with its line, and the next lock of two. A
+// slot is drawn, since it depends on the answers which slots the region's entries have.
+fn region_step(listing: u64, thread: u64, taken: u64, chance: u64) -> Asked {
+    let stages = stages_of(listing);
+    let round = thread % 4 + taken / 26 * 2;
+    let (kind, region) = match pick(&stages, taken) {
+        Stage::Own(kind) => (kind, round),
+        Stage::Next(kind) => (kind, round + 1),
+    };
+    let place = match kind {
+        Kind::EvictWords => chance / 13,
+        _ => region % 4,
+    };
+    Asked {
+        kind: kind as u64,
+        thread: thread_of(kind, thread),
+        place: place_of(kind, place),
         value: value_of(kind, chance),
     }
 }
 
 // The thread whose turn it is in a generated listing: each takes 13 steps, three steps or one step in a row, by the listing's number.
-fn thread_at(listing: u64, turns: usize) -> usize {
-    if listing % 3 == 0 {
-        return turns / 13 % 4;
+fn thread_at(listing: u64, turns: u64) -> u64 {
+    match listing % 3 {
+        0 => turns / 13 % 4,
+        1 => turns / 3 % 4,
+        _ => turns % 4,
     }
-    if listing % 3 == 1 {
-        return turns / 3 % 4;
-    }
-    turns % 4
 }
 
 // How many turns the thread whose turn it is had before.
-fn stage_at(listing: u64, turns: usize) -> usize {
-    if listing % 3 == 0 {
-        return turns / 52 * 13 + turns % 13;
+fn taken_at(listing: u64, turns: u64) -> u64 {
+    match listing % 3 {
+        0 => turns / 52 * 13 + turns % 13,
+        1 => turns / 12 * 3 + turns % 3,
+        _ => turns / 4,
     }
-    if listing % 3 == 1 {
-        return turns / 12 * 3 + turns % 3;
-    }
-    turns / 4
 }
 
-// A step of a thread with a full log: those that make an entry or free some, of a few cells or of any, and evictions of a few slots or of
-// any, nearly all of which have a live entry.
-fn crowded_step(thread: u64, chance: u64) -> Step {
-    let kinds = [2u64, 2, 2, 4, 5, 6, 8, 9, 10, 2, 3, 10, 14, 12, 14, 14];
-    let at = (chance / 7 % 16) as usize;
-    let kind = kinds[at];
+// A step of a thread with a full log, of a few cells or slots or of any; nearly all slots have a live entry.
+fn crowded_step(thread: u64, chance: u64) -> Asked {
+    let kind = pick(&CROWDED, chance / 7);
     let second = next(chance);
-    let mut place = place_of(kind, second / 13);
-    if kind < 4 && second / 3 % 4 == 0 {
-        place = second / 17 % 128;
-    }
-    if 11 < kind && second / 3 % 4 == 0 {
-        place = second / 17 % 64;
-    }
-    Step {
-        kind,
+    let is_any = second / 3 % 4 == 0;
+    let place = match kind {
+        Kind::Log | Kind::Store if is_any => second / 17 % 128,
+        Kind::EvictLog | Kind::EvictWords if is_any => second / 17 % 64,
+        _ => place_of(kind, second / 13),
+    };
+    Asked {
+        kind: kind as u64,
         thread: thread % 4,
         place,
         value: value_of(kind, second / 5),
@@ -330,23 +379,19 @@ fn crowded_step(thread: u64, chance: u64) -> Step {
 
 // The next step of a listing in which one thread fills its log: a region that it does not prune, an ACQUIRE and LOGs of one cell after the
 // other.
-fn filling_step(listing: u64, turns: usize, chance: u64) -> Step {
+fn filling_step(listing: u64, turns: u64, chance: u64) -> Asked {
     let thread = listing / 8 % 4;
-    if turns < 13 {
-        return region_step(0, thread as usize, turns, chance);
-    }
-    if turns == 13 {
-        return region_step(0, thread as usize, 14, chance);
-    }
-    if turns < 80 {
-        return Step {
-            kind: 2,
+    match turns {
+        0..=12 => region_step(0, thread, turns, chance),
+        13 => region_step(0, thread, 14, chance),
+        14..=79 => Asked {
+            kind: Kind::Log as u64,
             thread,
-            place: (turns % 128) as u64,
+            place: turns,
             value: 0,
-        };
+        },
+        _ => crowded_step(thread, chance),
     }
-    crowded_step(thread, chance)
 }
 
 // A listing has a step of its own now and then, that of no thread's turn: of any kind, and in some listings with fields out of range.
@@ -358,51 +403,35 @@ fn is_extra(listing: u64, chance: u64) -> bool {
 }
 
 // A step of a listing that is no thread's turn: of any kind, and in some listings with fields out of range.
-fn extra_step(listing: u64, chance: u64) -> Step {
+fn extra_step(listing: u64, chance: u64) -> Asked {
     if listing % 4 == 3 && chance / 9 % 4 != 0 {
         return spoiled_step(chance);
     }
-    any_step(chance)
+    step_of(pick(&KINDS, chance / 7), chance)
 }
 
 // The step of the thread whose turn it is, after so many turns: of the thread that fills its log, in some listings, or of regions.
-fn turn_step(listing: u64, turns: usize, chance: u64) -> Step {
+fn turn_step(listing: u64, turns: u64, chance: u64) -> Asked {
     if listing % 8 == 5 {
         return filling_step(listing, turns, chance);
     }
     let thread = thread_at(listing, turns);
-    region_step(listing, thread, stage_at(listing, turns), chance)
-}
-
-// The next step of a listing after so many turns.
-fn step_at(listing: u64, turns: usize, chance: u64) -> Step {
-    if is_extra(listing, chance) {
-        return extra_step(listing, chance);
-    }
-    turn_step(listing, turns, chance)
-}
-
-// How many turns there were after a listing's next step: one more, unless the step is no thread's turn.
-fn turns_after(listing: u64, turns: usize, chance: u64) -> usize {
-    if is_extra(listing, chance) {
-        return turns;
-    }
-    turns % 1000 + 1
+    region_step(listing, thread, taken_at(listing, turns), chance)
 }
 
 // A listing that is generated from a number.
-pub(crate) fn generated(listing: u64) -> [u64; 800]
-    ensures { 800 ≡ length result }
-{
-    let mut steps = [0u64; 800];
+pub(crate) fn generated(listing: u64) -> [Asked; STEPS] {
+    let mut steps = [Asked::NONE; STEPS];
     let mut chance = next(listing % 1000000 + 1);
-    let mut turns: usize = 0;
-    let mut done: usize = 0;
-    while done < STEPS {
+    let mut turns = 0u64;
+    for step in steps.iter_mut() {
         chance = next(chance);
-        put(&mut steps, done, step_at(listing, turns, chance));
-        turns = turns_after(listing, turns, chance);
-        done += 1;
+        if is_extra(listing, chance) {
+            *step = extra_step(listing, chance);
+        } else {
+            *step = turn_step(listing, turns, chance);
+            turns = turns.saturating_add(1);
+        }
     }
     steps
 }

@@ -3,8 +3,6 @@
 // are and damaged; marks claimed undo orders of these images by the checker and by the model; and prints how often each answer was met.
 #![tactic(auto)]
 
-ghost use Rattle.std.specs.Prelude.{◌≡◌, length};
-
 mod alike;
 mod calls;
 mod damage;
@@ -14,108 +12,78 @@ mod tally;
 mod undo_orders;
 
 use alike::run_alike;
-use listings::{Step, generated, put};
-use std::io;
-use tally::COUNTS;
+use listings::generated;
+use model::Asked;
+use model::history::Kind;
+use std::{array, io};
+use tally::Tally;
 
 // The generated listings.
 const LISTINGS: u64 = 200;
 
-// A step of thread 0.
-fn first_thread(kind: u64, place: u64) -> Step {
-    Step {
-        kind,
-        thread: 0,
-        place,
-        value: 0,
-    }
-}
+// The steps of a region of 3 entries that is released.
+const RELEASED: [Kind; 6] = [
+    Kind::Acquire,
+    Kind::Log,
+    Kind::LogRel,
+    Kind::FlushLog,
+    Kind::Fence,
+    Kind::Release,
+];
+
+// "A released region of 3 entries and 61 LOGs: the next is 5. PRUNE, then three are accepted and the fourth is 5." The number of the last
+// of the first so many steps.
+const FULL_LOG_ANSWERS: [(usize, u64); 5] = [(67, 0), (68, 5), (69, 0), (72, 0), (73, 5)];
 
 // A step of the corner point: a region of 3 entries that is released, and LOGs, with a PRUNE among them.
-fn full_log_step(done: usize) -> Step {
-    let kinds = [4u64, 2, 5, 8, 9, 6];
-    if done < 6 {
-        return first_thread(kinds[done], 0);
+fn full_log_step(done: usize) -> [u64; 4] {
+    match RELEASED.get(done) {
+        Some(kind) => [*kind as u64, 0, 0, 0],
+        None if done == 68 => [Kind::Prune as u64, 0, 0, 0],
+        None => [Kind::Log as u64, 0, done as u64, 0],
     }
-    if done == 68 {
-        return first_thread(10, 0);
-    }
-    first_thread(2, done as u64)
 }
 
-// "A released region of 3 entries and 61 LOGs: the next is 5. PRUNE, then three are accepted and the fourth is 5."
-fn full_log() -> [u64; 292]
-    ensures { 292 ≡ length result }
-{
-    let mut steps = [0u64; 292];
-    let mut done: usize = 0;
-    while done < 73 {
-        put(&mut steps, done, full_log_step(done));
-        done += 1;
-    }
-    steps
-}
-
-// The last of the first so many steps is answered with this number.
-fn answers(steps: &[u64], count: usize, number: u64) -> bool {
-    if steps.len() / 4 < count {
-        return false;
-    }
-    let start = [0u64; 128];
-    let end = count * 4;
-    let stepped = replay::run(&start, &steps[..end]);
-    let answer = stepped.answer;
-    answer::number(answer) == number
+// The last of the steps is answered with this number: document 01's, as its corner point says it.
+fn answers(steps: &[[u64; 4]], number: u64) -> bool {
+    let stepped = replay::run(&[0u64; 128], steps.as_flattened());
+    answer::number(stepped.answer) == number
 }
 
 // The corner point has document 01's answers, on the machine and on the model.
 fn full_log_agrees() -> bool {
-    let steps = full_log();
-    if !answers(&steps, 67, 0) {
-        return false;
+    let steps: [[u64; 4]; 73] = array::from_fn(full_log_step);
+    for (count, number) in FULL_LOG_ANSWERS {
+        if !answers(steps.get(..count).unwrap_or(&[]), number) {
+            return false;
+        }
     }
-    if !answers(&steps, 68, 5) {
-        return false;
-    }
-    if !answers(&steps, 69, 0) {
-        return false;
-    }
-    if !answers(&steps, 72, 0) {
-        return false;
-    }
-    if !answers(&steps, 73, 5) {
-        return false;
-    }
-    let mut met = [0u64; COUNTS];
-    run_alike(&steps, 1, &mut met)
+    let mut met = Tally::NONE;
+    run_alike(&steps.map(Asked::from), 1, &mut met)
 }
 
 // How many of the generated listings the machine and the model take alike.
-fn listings_alike(met: &mut [u64; COUNTS]) -> u64 {
-    let mut alike: u64 = 0;
-    let mut listing: u64 = 0;
-    while listing < LISTINGS {
-        let steps = generated(listing);
-        if run_alike(&steps, listing + 1, met) {
-            if alike < LISTINGS {
-                alike += 1;
-            }
+fn listings_alike(met: &mut Tally) -> u64 {
+    let mut alike = 0u64;
+    for listing in 0..LISTINGS {
+        if run_alike(&generated(listing), listing + 1, met) {
+            alike = alike.saturating_add(1);
         }
-        listing += 1;
     }
     alike
 }
 
 fn main(rt: HostRuntime) -> io::Result<()> {
-    if full_log_agrees() {
-        println!(rt; "a released region of 3 entries and 61 LOGs: agrees")?;
+    let verdict = if full_log_agrees() {
+        "agrees"
     } else {
-        println!(rt; "a released region of 3 entries and 61 LOGs: DIFFERS")?;
-    }
-    let mut met = [0u64; COUNTS];
+        "DIFFERS"
+    };
+    println!(rt; "a released region of 3 entries and 61 LOGs: {verdict}")?;
+    let mut met = Tally::NONE;
     let alike = listings_alike(&mut met);
     println!(rt;
         "listings of 200 steps, each with 41 cuts, on which machine and model agree, of 200: {alike}"
     )?;
-    tally::print(&rt, &met)
+    met.print(&rt)
 }

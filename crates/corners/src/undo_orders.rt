@@ -1,100 +1,96 @@
 // Claimed undo orders, lists of pairs, thread and rank: the checker and the model, side by side, on orders and on changed ones.
-use crate::alike::same;
-use crate::listings::{LARGE, next};
+ghost use Rattle.std.specs.Prelude.{◌≤◌};
+
+use crate::alike::is_refused_alike;
+use crate::listings::{LARGE, next, pick};
+use crate::model;
 use crate::model::drawing::draw;
 use crate::model::history::at;
 use crate::model::marking::undone;
-use crate::tally::COUNTS;
-use crate::{model, tally};
+use crate::model::{Unlawful, pairs_of};
+use crate::tally::Tally;
+use answer::Refusal;
 use sizes::CELLS;
 
 // The words of the longest list: two more than it may have.
 const LIST: usize = 514;
 
 // How a list is changed: not at all, or a pair is dropped, or stands twice, or is swapped with the next, or renumbered, or the list has
-// another number of words. These are the rows of the tally for cuts' images, and six more are for damaged ones.
-const AS_MADE: u64 = 0;
+// another number of words.
+#[derive(Clone, Copy, PartialEq, Eq)]
+pub(crate) enum Change {
+    AsMade = 0,
+    Dropped = 1,
+    Doubled = 2,
+    Swapped = 3,
+    Renumbered = 4,
+    Resized = 5,
+}
 
-const DROPPED: u64 = 1;
+pub(crate) const CHANGES: [Change; 6] = [
+    Change::AsMade,
+    Change::Dropped,
+    Change::Doubled,
+    Change::Swapped,
+    Change::Renumbered,
+    Change::Resized,
+];
 
-const DOUBLED: u64 = 2;
-
-const SWAPPED: u64 = 3;
-
-const RENUMBERED: u64 = 4;
-
-const RESIZED: u64 = 5;
-
-pub(crate) const CHANGES: u64 = 6;
+impl Change {
+    // What a row of the table calls it.
+    pub(crate) fn name(self) -> &'static str {
+        match self {
+            Change::AsMade => "as made",
+            Change::Dropped => "dropped",
+            Change::Doubled => "doubled",
+            Change::Swapped => "swapped",
+            Change::Renumbered => "renumbered",
+            Change::Resized => "odd, long",
+        }
+    }
+}
 
 // The entries of the list, undone in its order, give the cells that recovery gives.
 fn undoes_alike(image: &[u64], list: &[u64]) -> bool {
     let mut cells = [0u64; CELLS];
-    let answer = recovery::recover(image, &mut cells);
-    if answer::number(answer) != 0 {
-        return false;
-    }
-    same(&cells, &undone(image, list))
+    recovery::recover(image, &mut cells).is_ok() && cells == undone(image, pairs_of(list))
 }
 
 // Checker and model give the list the same answer and place, and an accepted list for a cut's image undoes to what recovery gives.
-fn list_alike(image: &[u64], list: &[u64], row: u64, met: &mut [u64; COUNTS]) -> bool {
-    let checked = order::check(image, list);
-    let answer = checked.answer;
-    let verdict = model::mark(image, list);
-    if answer::number(answer) != verdict.answer {
-        return false;
-    }
-    if checked.place as u64 != verdict.number {
-        return false;
-    }
-    tally::add_list(met, row, verdict.answer, verdict.number, list.len() / 2);
-    if verdict.answer == 0 {
-        if row < CHANGES {
-            return undoes_alike(image, list);
-        }
-    }
-    true
-}
-
-// The same for a list's first words.
-fn part_alike(
+fn list_alike(
     image: &[u64],
     list: &[u64],
-    words: usize,
-    row: u64,
-    met: &mut [u64; COUNTS],
+    change: Change,
+    is_damaged: bool,
+    met: &mut Tally,
 ) -> bool {
-    if list.len() < words {
-        return false;
+    let checked = order::check(image, list);
+    let marked = model::mark(image, list);
+    met.add_list(change, is_damaged, list.len() / 2, marked);
+    let place = checked.place;
+    match (checked.answer, marked) {
+        (Ok(_), Ok(())) => place == 0 && (is_damaged || undoes_alike(image, list)),
+        (Err(Refusal::NotAnOrder), Err(Unlawful::BadAt(bad))) => place == bad,
+        (Err(refusal), Err(Unlawful::Refused(other))) => {
+            place == 0 && is_refused_alike(refusal, other)
+        }
+        _ => false,
     }
-    list_alike(image, &list[..words], row, met)
 }
 
 // Where a word of the changed list stands in the list as made, in which the changed pair begins at this other place.
-fn source_of(change: u64, index: usize, pair: usize) -> usize {
+fn source_of(change: Change, index: usize, pair: usize) -> usize {
     let near = index % 1000;
-    if near < pair {
+    let Some(past) = near.checked_sub(pair) else {
         return near;
+    };
+    match change {
+        Change::Dropped => near + 2,
+        Change::Doubled if 1 < past => near - 2,
+        Change::Swapped if past < 2 => near + 2,
+        Change::Swapped if past < 4 => near - 2,
+        _ => near,
     }
-    if change == DROPPED {
-        return near + 2;
-    }
-    if near - pair < 2 {
-        if change == SWAPPED {
-            return near + 2;
-        }
-        return near;
-    }
-    if change == DOUBLED {
-        return near - 2;
-    }
-    if change == SWAPPED {
-        if near - pair < 4 {
-            return near - 2;
-        }
-    }
-    near
 }
 
 // Another thread or rank: one less or one more, the rank that comes to the same slot next, one that differs in a high bit alone or in a
@@ -109,101 +105,84 @@ fn other_number(number: u64, chance: u64) -> u64 {
         near ^ 4,
         LARGE,
     ];
-    let index = (chance % 6) as usize;
-    numbers[index]
+    pick(&numbers, chance)
 }
 
-// A word of the changed list. The changed pair is the one that has the word at the spot, and a renumbered pair has another word there.
-fn changed_word(made: &[u64; LIST], change: u64, spot: usize, chance: u64, index: usize) -> u64 {
-    let word = at(made, source_of(change, index, spot / 2 * 2));
-    if change == RENUMBERED {
-        if index == spot {
-            return other_number(word, chance);
+// The changed list, with zeros past its last pair. The changed pair is the one that has the word at the spot, and a renumbered pair has
+// another word there.
+fn changed_list(made: &[u64], change: Change, spot: usize, chance: u64) -> [u64; LIST] {
+    let mut list = [0u64; LIST];
+    for (index, word) in list.iter_mut().enumerate() {
+        *word = at(made, source_of(change, index, spot / 2 * 2));
+        if change == Change::Renumbered && index == spot {
+            *word = other_number(*word, chance);
         }
     }
-    word
+    list
 }
 
-// Writes the changed list, with zeros past its last pair.
-fn write_list(made: &[u64; LIST], change: u64, spot: usize, chance: u64, list: &mut [u64]) {
-    for index in 0..list.len() {
-        list[index] = changed_word(made, change, spot, chance, index);
-    }
-}
-
-// The spot in a list of so many pairs; it is not in the last one where a pair is to be swapped with the next.
-fn spot_of(change: u64, pairs: usize, chance: u64) -> usize {
-    let words = pairs % 257 * 2;
+// The spot in a list of so many words; it is not in the last pair where that is to be swapped with the next.
+fn spot_of(change: Change, words: usize, chance: u64) -> usize {
     if words < 4 {
         return 0;
     }
-    if change == SWAPPED {
-        return chance as usize % (words - 2);
+    match change {
+        Change::Swapped => chance as usize % (words - 2),
+        _ => chance as usize % words,
     }
-    chance as usize % words
 }
 
 // How many words the changed list has. Another number is one less or one more, or the most that a list may have, or two over that.
-fn words_of(change: u64, pairs: usize, chance: u64) -> usize {
-    let words = pairs % 257 * 2;
+fn words_of(change: Change, words: usize, chance: u64) -> usize
+    requires { words ≤ 512 }
+{
     if words < 4 {
         return words;
     }
-    let numbers = [
-        words,
-        words - 2,
-        words + 2,
-        words,
-        words,
-        words - 1,
-        words + 1,
-        LIST - 2,
-        LIST,
-    ];
-    let index = if change == RESIZED {
-        RESIZED + chance % 4
-    } else {
-        change
-    };
-    numbers[(index % 9) as usize]
+    match change {
+        Change::Dropped => words - 2,
+        Change::Doubled => words + 2,
+        Change::Resized => match chance % 4 {
+            0 => words - 1,
+            1 => words + 1,
+            2 => LIST - 2,
+            _ => LIST,
+        },
+        _ => words,
+    }
 }
 
 // Checker and model mark an order of the image alike that is drawn by chance and changed. One of fewer than two pairs is not changed.
-fn changed_alike(image: &[u64], row: u64, chance: u64, met: &mut [u64; COUNTS]) -> bool {
-    let change = row % CHANGES;
-    let mut made = [0u64; LIST];
+fn changed_alike(
+    image: &[u64],
+    change: Change,
+    is_damaged: bool,
+    chance: u64,
+    met: &mut Tally,
+) -> bool {
+    let mut made = [[0u64; 2]; 256];
     let pairs = draw(image, chance, &mut made);
-    if pairs < 2 && change != AS_MADE {
+    if pairs < 2 && change != Change::AsMade {
         return true;
     }
-    let mut list = [0u64; LIST];
+    let words = pairs * 2;
     let other = next(chance);
-    write_list(
-        &made,
-        change,
-        spot_of(change, pairs, other),
-        other / 7,
-        &mut list,
-    );
-    part_alike(image, &list, words_of(change, pairs, other / 5), row, met)
+    let spot = spot_of(change, words, other);
+    let list = changed_list(made.as_flattened(), change, spot, other / 7);
+    let claimed = list
+        .get(..words_of(change, words, other / 5))
+        .unwrap_or(&list);
+    list_alike(image, claimed, change, is_damaged, met)
 }
 
-// Checker and model mark orders of the image alike that are drawn by chance, one as it is and one for each change. Their rows in the tally
-// are those from this one on.
-pub(crate) fn orders_alike(
-    image: &[u64],
-    first: u64,
-    chance: u64,
-    met: &mut [u64; COUNTS],
-) -> bool {
+// Checker and model mark orders of the image alike that are drawn by chance, one as it is and one for each change.
+pub(crate) fn orders_alike(image: &[u64], is_damaged: bool, chance: u64, met: &mut Tally) -> bool {
     let mut drawn = next(chance);
-    let mut change: u64 = 0;
-    while change < CHANGES {
-        if !changed_alike(image, first % 1000 + change, drawn, met) {
+    for change in CHANGES {
+        if !changed_alike(image, change, is_damaged, drawn, met) {
             return false;
         }
         drawn = next(drawn);
-        change += 1;
     }
     true
 }

@@ -1,4 +1,5 @@
 -- All choices at a cut recover to the same cells; so trying them all finds every one alike.
+use Rattle.std.specs.Prelude.{Ok}
 use Prim.Native.Nat.{ℕ}
 use mathlib.Core.Path.{◌≡◌, refl, sym, ap, ap₂, ◌∙◌}
 use mathlib.Core.List.{List, [], ◌++◌, flatten}
@@ -7,13 +8,12 @@ use lib.ListN.{length, take, replicate, length-replicate, length-map}
 use lib.Seq.{take_all}
 use Rattle.answer.specs.Lists.{tab, mix_from}
 use Rattle.answer.specs.Refusals.{Outcome}
-use Rattle.answer.specs.declared.Answer.{Answer}
-use Rattle.answer.specs.declared.Answer.TheVariants.{Accepted}
+use Rattle.answer.specs.Answer.{Answer}
 use Rattle.cache.specs.Cache.{cell_count, line_count, line_of}
 use Rattle.reader.specs.Stretch.{image_words}
 use Rattle.machine.specs.Image.{image_of, cut_of}
 use Rattle.machine.specs.Runs.{Step, after, evict_all, Reached}
-use Rattle.machine.specs.declared.Machine.{Machine}
+use Rattle.machine.specs.State.{Machine}
 use Rattle.machine.proofs.Reaching.{after_append}
 use Rattle.buffer.specs.Buffers.{written, place_after}
 use Rattle.print.specs.Printed.{cut_line_text}
@@ -43,13 +43,13 @@ zeros = replicate cell_count 0
 module _ (machine : Machine) (reached : Reached machine) where
   -- every choice, of any lines, finds the cells of the reference model
   finds : (lines : List ℕ) →
-      recovered_by machine lines ≡ record { answer = Accepted 0; buffer = cells_of (book_after reached.words reached.steps) }
+      recovered_by machine lines ≡ record { answer = Ok 0; buffer = cells_of (book_after reached.words reached.steps) }
   unfolding recovered_by
   finds lines =
       ap (λ (machine : Machine). recover_of (image_of machine) zeros) as_one ∙
       (any_eviction reached.words reached.steps (length reached.steps) lines zeros (omega arith)
       (length-replicate {A = ℕ} cell_count 0) ∙
-      ap (λ (steps : List Step). record { answer = Accepted 0; buffer = cells_of (book_after reached.words steps) }) whole)
+      ap (λ (steps : List Step). record { answer = Ok 0; buffer = cells_of (book_after reached.words steps) }) whole)
     where
       whole : take (length reached.steps) reached.steps ≡ reached.steps
       whole = take_all (length reached.steps) reached.steps (omega arith)

@@ -4,7 +4,7 @@ use mathlib.Core.Path.{◌≡◌, refl, sym, ◌∙◌, ap}
 use mathlib.Core.List.{List, [], ◌++◌, append-nil}
 use native.Mathlib.Omega.{arith}
 use lib.ListN.{length, length-append}
-use Rattle.machine.specs.declared.Machine.{Machine}
+use Rattle.machine.specs.State.{Machine}
 use Rattle.names.specs.Text.{ascii}
 use Rattle.line.specs.Lines.{lines_of}
 use Rattle.print.specs.Printed.{cut_line_text}
@@ -69,10 +69,11 @@ pub first-cut : (old : List ℕ) → transcript_room ≤ length old → {machine
 first-cut old room {machine} is put = rw (sym is) (wrote_first old (omega (arith, cut_most 0 machine)) put.0 put.1)
 
 -- at the end of the input no more is printed: what is written is all
-pub printing_end : {text input old output : List ℕ} {machine : Machine} {number from place : ℕ}
-    → Printing cuts_from text input old output machine number from place → length input ≤ from → Stands input text old place output
+pub printing_end : {text input old output : List ℕ} {machine : Machine} {number : ℕ} {rest : List ℕ} {place : ℕ}
+    → Printing cuts_from text input old output machine number rest place → length rest ≤ 0
+    → {lent : List ℕ} → lent ≡ output → Stands input text old place lent
 unfolding cuts_from
-printing_end {text} {input} {old} so_far none =
+printing_end {text} {input} {old} so_far none ended =
     let all : text ≡ so_far.done =
     sym so_far.left ∙ ap (λ (rest : List ℕ). so_far.done ++ rest) (none_left so_far none) ∙ append-nil so_far.done in
-    print-all input text old so_far.room so_far.short (rw all so_far.wrote)
+    rw ended (print-all input text old so_far.room so_far.short (rw all so_far.wrote))

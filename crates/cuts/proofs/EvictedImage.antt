@@ -20,7 +20,7 @@ use Rattle.reader.specs.Stretch.{heads_at, image_words}
 use Rattle.machine.specs.Holds.{with_cache}
 use Rattle.machine.specs.Image.{image_of}
 use Rattle.machine.specs.Runs.{after, evict_steps, evict_all, Reached}
-use Rattle.machine.specs.declared.Machine.{Machine}
+use Rattle.machine.specs.State.{Machine}
 use Rattle.machine.proofs.Evictions.{all-evicted}
 use Rattle.machine.proofs.ImageWritten.{reads}
 use Rattle.machine.proofs.Reaching.{after_append}

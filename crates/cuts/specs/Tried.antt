@@ -1,11 +1,11 @@
 -- At a cut, "every choice of the data lines whose seen and kept contents differ, at most the 8 lowest, evicted just before".
+use Rattle.std.specs.Prelude.{Ok}
 use Rattle.std.specs.Prelude.{ℕ, ◌≡◌, List, [], map, replicate}
 use Rattle.answer.specs.Refusals.{Outcome}
-use Rattle.answer.specs.declared.Answer.TheVariants.{Accepted}
 use Rattle.cache.specs.Cache.{cell_count}
 use Rattle.machine.specs.Image.{image_of}
 use Rattle.machine.specs.Runs.{after, Reached}
-use Rattle.machine.specs.declared.Machine.{Machine}
+use Rattle.machine.specs.State.{Machine}
 use Rattle.recovery.specs.Recover.{recover_of}
 use Rattle.laws.specs.AnyEviction.{evictions}
 use Rattle.choices.specs.Choices.{lowest_lines, choices_of}
@@ -27,4 +27,4 @@ tried machine = map (recovered_by machine) (choices_of (tried_lines machine))
 abbrev pub AllAlike : Type 0
 AllAlike =
     (machine : Machine) → Reached machine → (lines : List ℕ) →
-    (recovered_by machine lines ≡ recovered_by machine []) × ((recovered_by machine lines).answer ≡ Accepted 0)
+    (recovered_by machine lines ≡ recovered_by machine []) × ((recovered_by machine lines).answer ≡ Ok 0)

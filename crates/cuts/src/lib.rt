@@ -2,51 +2,47 @@
 #![tactic(auto)]
 
 ghost use Rattle.std.specs.Prelude.{◌≡◌};
-ghost use Rattle.machine.specs.Runs.{Reached};
-ghost use Rattle.buffer.specs.Buffers.{written, place_after};
+ghost use Rattle.buffer.specs.Pages.{Put};
 ghost use Rattle.cuts.specs.Cuts.{not_zero, cut_text, cuts_in};
 
-use answer::Answer;
+use answer::Refusal;
+use buffer::Page;
 use line::Line;
 use listing::{MOST_INPUT, TRANSCRIPT_ROOM};
 use machine::Machine;
 use reader::IMAGE_WORDS;
 use sizes::CELLS;
-use step::step;
 
 // How many of the cells are not 0.
 fn not_zero(cells: &[u64]) -> u64
     ensures { result ≡ not_zero cells.now }
 {
+    // a loop, since a filter that is counted takes several times as long here
     let mut count = 0;
-    let mut cell = 0;
-    while cell < cells.len() {
-        if cells[cell] != 0 {
+    for &content in cells {
+        if content != 0 {
             count += 1;
         }
-        cell += 1;
     }
     count
 }
 
 // Cuts the machine, tries every choice of lines, and writes what was found. The choices' images differ in cells only, and recovery takes
 // each cell by itself: so two recoveries, of the cells as kept and of all cells as seen, have what each choice would recover.
-fn write_cut(output: &mut [u8], place: usize, number: u64, machine: Machine) -> usize
-    requires { Reached machine }
-    ensures value { result ≡ place_after output.old place (cut_text number machine) }
-    ensures output_after { output.new ≡ written output.old place (cut_text number machine) }
+fn write_cut(page: &mut Page, number: u64, machine: Machine)
+    ensures { Put page.old page.new (cut_text number machine) }
 {
     let mut image = [0u64; IMAGE_WORDS];
     let mut kept = [0u64; CELLS];
     let mut seen_image = [0u64; IMAGE_WORDS];
     let mut seen = [0u64; CELLS];
-    machine.cut(&mut image);
-    machine.cut_evicted(&mut seen_image);
-    recovery::recover(&image, &mut kept);
-    recovery::recover(&seen_image, &mut seen);
+    let _ = machine.cut(&mut image);
+    let _ = machine.cut_evicted(&mut seen_image);
+    let _ = recovery::recover(&image, &mut kept);
+    let _ = recovery::recover(&seen_image, &mut seen);
     let choices = choices::alike_choices(&seen_image, &image, &seen, &kept);
     let differ = not_zero(&kept);
-    print::write_cut_line(output, place, number, choices, differ)
+    print::write_cut_line(page, number, choices, differ);
 }
 
 // Writes a line for the cut at the start and after each step, and answers how many bytes they take.
@@ -56,36 +52,35 @@ pub fn all_cuts(input: &[u8], output: &mut [u8]) -> usize
     if output.len() < TRANSCRIPT_ROOM {
         return 0;
     }
+    let mut page = Page::new(output);
     if MOST_INPUT < input.len() {
-        return print::write_result(output, 0, 1, Answer::Unreadable);
+        print::write_result(&mut page, 1, Err(Refusal::Unreadable));
+        return page.place;
     }
     let zeros = [0u64; CELLS];
     let started = Machine::start(&zeros);
     let mut machine = started.machine;
     let mut number: u64 = 1;
-    let mut from = 0;
-    let mut place = write_cut(output, 0, 0, machine);
-    while from < input.len() {
-        let rest = &input[from..];
-        let Line::Step {
-            kind,
-            thread,
-            place: at,
-            value,
-        } = line::first_line(rest)
+    let mut rest = input;
+    write_cut(&mut page, 0, machine);
+    // by a loop, as `listing::transcript` says
+    while !rest.is_empty() {
+        let Some(
+            Line::Step {
+                kind,
+                thread,
+                place: at,
+                value,
+            },
+        ) = line::first_line(rest)
         else {
-            return print::write_result(output, place, number, Answer::Unreadable);
+            print::write_result(&mut page, number, Err(Refusal::Unreadable));
+            return page.place;
         };
-        let read = script::read_fields(kind, thread, at, value);
-        let mut taken: u64 = 0;
-        while taken < read.count {
-            let stepped = step(machine, read.kind, read.thread, read.first + taken, value);
-            machine = stepped.machine;
-            taken += 1;
-        }
-        place = write_cut(output, place, number, machine);
+        let _ = script::take(&mut machine, kind, thread, at, value);
+        write_cut(&mut page, number, machine);
         number += 1;
-        from += line::line_length(rest);
+        rest = line::after_line(rest);
     }
-    place
+    page.place
 }

@@ -31,35 +31,23 @@ impl Entry {
         requires { index < 4 }
         ensures { result ≡ get_or (slot_words self) index 0 }
     {
-        if index == 0 {
-            return self.kind as u64;
-        }
-        if index == 1 {
-            return self.place as u64;
-        }
-        if index == 2 {
-            return self.value;
-        }
-        self.lsn.0 as u64
+        [
+            u64::from(self.kind),
+            u64::from(self.place),
+            self.value,
+            u64::from(self.lsn.0),
+        ][index]
     }
 
     // What is persisted of a slot that had this entry, once the first so many words of another one are persisted there.
-    pub fn torn(mut self, new: Entry, count: usize) -> Entry
+    pub fn torn(self, new: Entry, count: usize) -> Entry
         ensures { result ≡ torn_of self new count }
     {
-        if 0 < count {
-            self.kind = new.kind;
+        Entry {
+            kind: if 0 < count { new.kind } else { self.kind },
+            place: if 1 < count { new.place } else { self.place },
+            lsn: if LSN_WORD < count { new.lsn } else { self.lsn },
+            value: if 2 < count { new.value } else { self.value },
         }
-        if 1 < count {
-            self.place = new.place;
-        }
-        if 2 < count {
-            self.value = new.value;
-        }
-        if LSN_WORD < count {
-            let lsn = new.lsn;
-            self.lsn = lsn;
-        }
-        self
     }
 }

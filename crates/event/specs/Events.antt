@@ -1,8 +1,7 @@
 -- What an entry of an undo log means: a cell's content before a store, or a lock's count.
+use Rattle.std.specs.Prelude.{None, Option, Some}
 use Rattle.std.specs.Prelude.{ℕ, cond, eqb}
 use Rattle.entry.specs.declared.Payload.{Payload}
-use Rattle.tail.specs.declared.Releasing.{Releasing}
-use Rattle.tail.specs.declared.Releasing.TheVariants.{Nothing, Lock}
 use Rattle.event.specs.declared.Event.{Event}
 use Rattle.event.specs.declared.Event.TheVariants.{Empty, Store, Acquire, Release}
 use Rattle.event.specs.declared.SyncCount.{SyncCount}
@@ -44,8 +43,8 @@ event_of payload =
     (cond (eqb payload.kind 3) (Release payload.place (sync_count payload.value)) Empty))
 
 -- the lock that an entry begins to release: "LOGREL lock: appends RELEASE with the count; the thread is closing"
-abbrev pub closes_of : Event → Releasing
-closes_of Empty = Nothing
-closes_of (Store cell old) = Nothing
-closes_of (Acquire lock count) = Nothing
-closes_of (Release lock count) = Lock lock
+abbrev pub closes_of : Event → Option ℕ
+closes_of Empty = None
+closes_of (Store cell old) = None
+closes_of (Acquire lock count) = None
+closes_of (Release lock count) = Some lock

@@ -6,11 +6,11 @@ ghost use Rattle.entry.specs.Words.{said_by};
 ghost use Rattle.event.specs.Events.{payload_of, event_of, closes_of};
 
 use entry::{Entry, Payload};
-use tail::Releasing;
 
 pub mod words;
 
-// The kinds of entry, by document 01's numbers; `words` has them as 64-bit words.
+// The kinds of entry by document 01's numbers; `words` has them as 64-bit words. Numbers, and no enum: a slot or an image may hold any
+// word there, and `payload_of`, `event_of` and `is_bad_entry` go by the word.
 pub const STORE_ENTRY: u8 = 1;
 
 pub const ACQUIRE_ENTRY: u8 = 2;
@@ -21,7 +21,8 @@ pub const RELEASE_ENTRY: u8 = 3;
 #[derive(Clone, Copy)]
 pub struct SyncCount(pub u64);
 
-// What an entry records: a cell's content before a store, or a lock's count.
+// What an entry records: a cell's content before a store, or a lock's count. `Empty` is what an untouched slot says: a case, and no
+// Option, for `event_of` gives every entry an event.
 #[derive(Clone, Copy)]
 pub enum Event {
     Empty,
@@ -31,11 +32,23 @@ pub enum Event {
 }
 
 impl Event {
-    // How the event is written in an entry.
-    pub fn payload(self) -> Payload
-        ensures { result ≡ payload_of self }
+    // The lock that an entry begins to release.
+    pub fn closes(self) -> Option<u8>
+        ensures { result ≡ closes_of self }
     {
         match self {
+            Event::Release { lock, .. } => Some(lock),
+            Event::Empty | Event::Store { .. } | Event::Acquire { .. } => None,
+        }
+    }
+}
+
+impl From<Event> for Payload {
+    ghost from_gives = { λ event payload. payload ≡ payload_of event };
+
+    // How the event is written in an entry.
+    fn from(event: Event) -> Payload {
+        match event {
             Event::Empty => Payload {
                 kind: 0,
                 place: 0,
@@ -58,43 +71,28 @@ impl Event {
             },
         }
     }
-
-    // The lock that an entry begins to release.
-    pub fn closes(self) -> Releasing
-        ensures { result ≡ closes_of self }
-    {
-        match self {
-            Event::Empty => Releasing::Nothing,
-            Event::Store { cell: _, old: _ } => Releasing::Nothing,
-            Event::Acquire { lock: _, count: _ } => Releasing::Nothing,
-            Event::Release { lock, count: _ } => Releasing::Lock(lock),
-        }
-    }
 }
 
-// What an entry says.
-pub fn event_of(entry: Entry) -> Event
-    ensures { result ≡ event_of (said_by entry) }
-{
-    let place = entry.place;
-    let value = entry.value;
-    if entry.kind == STORE_ENTRY {
-        return Event::Store {
-            cell: place,
-            old: value,
-        };
+impl From<Entry> for Event {
+    ghost from_gives = { λ entry event. event ≡ event_of (said_by entry) };
+
+    // What an entry says.
+    #[tactic(auto, unfolding(crate::specs::Events::event_of))]
+    fn from(entry: Entry) -> Event {
+        match entry.kind {
+            STORE_ENTRY => Event::Store {
+                cell: entry.place,
+                old: entry.value,
+            },
+            ACQUIRE_ENTRY => Event::Acquire {
+                lock: entry.place,
+                count: SyncCount(entry.value),
+            },
+            RELEASE_ENTRY => Event::Release {
+                lock: entry.place,
+                count: SyncCount(entry.value),
+            },
+            _ => Event::Empty,
+        }
     }
-    if entry.kind == ACQUIRE_ENTRY {
-        return Event::Acquire {
-            lock: place,
-            count: SyncCount(value),
-        };
-    }
-    if entry.kind == RELEASE_ENTRY {
-        return Event::Release {
-            lock: place,
-            count: SyncCount(value),
-        };
-    }
-    Event::Empty
 }

@@ -1,13 +1,13 @@
 -- What the code reads of an image and answers, and what an image is that the tests let pass.
-use Rattle.std.specs.Prelude.{ℕ, ◌<◌, ◌≡◌, Bool, false, List, length, replicate}
+use Rattle.std.specs.Prelude.{ℕ, ◌<◌, ◌≡◌, Bool, false, List, length, Result}
+use Rattle.std.specs.Result.{result_map_both}
 use Rattle.sizes.specs.Sizes.{thread_count}
-use Rattle.answer.specs.Refusals.{unless}
-use Rattle.answer.specs.declared.Answer.TheVariants.{Accepted}
+use Rattle.answer.specs.Refusals.{first_refusal}
+use Rattle.answer.specs.declared.Refusal.{Refusal}
 use Rattle.reader.specs.Stretch.{image_words}
 use Rattle.image.specs.Stored.{StoredLog, stored_logs, stored_log, present_entries, entry_kind, entry_place, entry_value}
 use Rattle.image.specs.Tests.{is_bad_head, is_bad_entry, has_bad_entry, image_tests}
 use Rattle.image.specs.declared.Entry.{Entry}
-use Rattle.image.specs.declared.Tested.{Tested}
 
 -- the log with this stretch and this head
 abbrev pub log_of : List ℕ → ℕ → StoredLog
@@ -38,10 +38,6 @@ pub record Readable (image : List ℕ) : Type 0 where
   pub headed : Headed image
   pub good : (thread : ℕ) → thread < thread_count → has_bad_entry (log_in image thread) ≡ false
 
--- the refusal of the first test that holds, and no entries; where none holds acceptance, and how many present entries each thread has
-unfoldable pub tested_of : List ℕ → Tested
-tested_of image =
-    unless
-    (λ answer. record { answer = answer; present = replicate thread_count 0 })
-    (image_tests image)
-    (record { answer = Accepted 0; present = present_entries image })
+-- the refusal of the first test that holds; where none holds, how many present entries each thread has
+unfoldable pub tested_of : List ℕ → Result (List ℕ) Refusal
+tested_of image = result_map_both (λ given. present_entries image) (λ refusal. refusal) (first_refusal (image_tests image))

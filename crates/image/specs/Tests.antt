@@ -3,7 +3,7 @@ use Rattle.std.specs.Prelude.{ℕ, ◌+◌, Bool, true, cond, not, ◌||◌, Lis
 use Rattle.sizes.specs.Sizes.{thread_count, lock_count}
 use Rattle.answer.specs.Lists.{some_below}
 use Rattle.answer.specs.Refusals.{Test, ◌⇒◌}
-use Rattle.answer.specs.declared.Answer.TheVariants.{WrongLength, BadHead, BadEntry}
+use Rattle.answer.specs.declared.Refusal.TheVariants.{WrongLength, BadHead, BadEntry}
 use Rattle.ring.specs.Ring.{last_lsn}
 use Rattle.reader.specs.Stretch.{image_words}
 use Rattle.image.specs.Stored.{StoredLog, stored_logs, stored_log, present_in, entry_kind, entry_place, entry_value}

@@ -1,2 +1,3 @@
 -- Laws of the input's tests.
 pub mod Inputs
+pub mod Rows

@@ -1,32 +1,39 @@
 -- The kinds of step by document 01's and document 02's numbers, which fields each uses, and the refusals because of the input.
-use Rattle.std.specs.Prelude.{ℕ, Bool, false, cond, not, ◌||◌, List, [], ◌∷◌, ◌++◌, eqb, ltb}
-use Rattle.std.proofs.Math.Option.{Option, none, some}
+use Rattle.std.specs.Prelude.{ℕ, ◌<◌, ◌≤◌, ◌≡◌, Bool, false, cond, not, ◌||◌, List, [], ◌∷◌, ◌++◌, eqb, ltb, Option, None, Some, Result, Ok, Err}
 use Rattle.sizes.specs.Sizes.{thread_count, lock_count, entry_words}
 use Rattle.answer.specs.Refusals.{Test, ◌⇒◌, first_refusal}
-use Rattle.answer.specs.declared.Answer.{Answer}
-use Rattle.answer.specs.declared.Answer.TheVariants.{NoSuchKind, NoSuchThread, NoSuchPlace, UnusedField, NoSuchWordCount}
+use Rattle.answer.specs.Answer.{Answer}
+use Rattle.answer.specs.declared.Refusal.{Refusal}
+use Rattle.answer.specs.declared.Refusal.TheVariants.{NoSuchKind, NoSuchThread, NoSuchPlace, UnusedField, NoSuchWordCount}
 use Rattle.cache.specs.Cache.{cell_count, line_count}
 use Rattle.ring.specs.Ring.{slot_count}
-
-pub data Kind : Type 0 where
-  LOAD LOG STORE ACQUIRE LOGREL RELEASE FLUSH FLUSHLOG FENCE PRUNE EVICTLOG EVICTCELL EVICTWORDS : Kind
+use Rattle.kinds.specs.declared.Kind.{Kind}
+use Rattle.kinds.specs.declared.Kind.TheVariants.{Load as LOAD, Log as LOG, Store as STORE, Acquire as ACQUIRE, LogRel as LOGREL}
+use Rattle.kinds.specs.declared.Kind.TheVariants.{Release as RELEASE, Flush as FLUSH, FlushLog as FLUSHLOG, Fence as FENCE}
+use Rattle.kinds.specs.declared.Kind.TheVariants.{Prune as PRUNE, EvictLog as EVICTLOG, EvictCell as EVICTCELL}
+use Rattle.kinds.specs.declared.Kind.TheVariants.{EvictWords as EVICTWORDS}
 
 -- the kind of a number: none is "1: kind not 1 to 12", which "now begins at 15" and "now covers 11 too" (document 02)
 unfoldable pub kind_of : ℕ → Option Kind
 kind_of number =
-    cond (eqb number 1) (some LOAD)
-    (cond (eqb number 2) (some LOG)
-    (cond (eqb number 3) (some STORE)
-    (cond (eqb number 4) (some ACQUIRE)
-    (cond (eqb number 5) (some LOGREL)
-    (cond (eqb number 6) (some RELEASE)
-    (cond (eqb number 7) (some FLUSH)
-    (cond (eqb number 8) (some FLUSHLOG)
-    (cond (eqb number 9) (some FENCE)
-    (cond (eqb number 10) (some PRUNE)
-    (cond (eqb number 12) (some EVICTLOG)
-    (cond (eqb number 13) (some EVICTCELL)
-    (cond (eqb number 14) (some EVICTWORDS) none))))))))))))
+    cond (eqb number 1) (Some LOAD)
+    (cond (eqb number 2) (Some LOG)
+    (cond (eqb number 3) (Some STORE)
+    (cond (eqb number 4) (Some ACQUIRE)
+    (cond (eqb number 5) (Some LOGREL)
+    (cond (eqb number 6) (Some RELEASE)
+    (cond (eqb number 7) (Some FLUSH)
+    (cond (eqb number 8) (Some FLUSHLOG)
+    (cond (eqb number 9) (Some FENCE)
+    (cond (eqb number 10) (Some PRUNE)
+    (cond (eqb number 12) (Some EVICTLOG)
+    (cond (eqb number 13) (Some EVICTCELL)
+    (cond (eqb number 14) (Some EVICTWORDS) None))))))))))))
+
+-- the kind that was found, or test 1's refusal
+abbrev pub found : Option Kind → Result Kind Refusal
+found None = Err NoSuchKind
+found (Some kind) = Ok kind
 
 -- how a kind uses a field: as a number below a bound, as a count from 1 to a bound, as any number, or not at all
 pub data Field : Type 0 where
@@ -96,5 +103,19 @@ input_tests kind thread place value =
 
 -- the first refusal because of the input, or acceptance
 abbrev pub input_answer : Option Kind → ℕ → ℕ → ℕ → Answer
-input_answer none thread place value = NoSuchKind
-input_answer (some kind) thread place value = first_refusal (input_tests kind thread place value)
+input_answer None thread place value = Err NoSuchKind
+input_answer (Some kind) thread place value = first_refusal (input_tests kind thread place value)
+
+-- the field is used within its bounds, or is 0 where it is unused
+abbrev pub FieldFits : Field → ℕ → Type 0
+FieldFits (below bound) word = word < bound
+FieldFits (counted most) word = (1 ≤ word) × (word ≤ most)
+FieldFits free word = Unit {0}
+FieldFits unused word = word ≡ 0
+
+-- what an accepted input's fields are
+pub record InputFits (kind : Kind) (thread place value : ℕ) : Type 0 where
+  pub is_thread : thread < thread_count
+  pub thread_fits : FieldFits (fields_of kind).thread thread
+  pub place_fits : FieldFits (fields_of kind).place place
+  pub value_fits : FieldFits (fields_of kind).value value

@@ -1,4 +1,5 @@
 -- Whatever lines are evicted just before a cut, recovery finds the same cells: evictions leave the reference model alone.
+use Rattle.std.specs.Prelude.{Ok}
 use Prim.Native.Nat.{ℕ, zero, suc, ◌+◌, ◌*◌}
 use mathlib.Core.Path.{◌≡◌, refl, sym, ap, ap₂, ◌∙◌}
 use mathlib.Core.Bool.{Bool, true, false}
@@ -7,13 +8,12 @@ use lib.ListN.{length, take, replicate, length-replicate}
 use Rattle.answer.specs.Answer.{is_accepted}
 use Rattle.answer.specs.Lists.{tab}
 use Rattle.answer.specs.Refusals.{Outcome}
-use Rattle.answer.specs.declared.Answer.{Answer}
-use Rattle.answer.specs.declared.Answer.TheVariants.{Accepted}
+use Rattle.answer.specs.Answer.{Answer}
 use Rattle.cache.specs.Cache.{cell_count}
 use Rattle.reader.specs.Stretch.{image_words}
 use Rattle.machine.specs.Image.{image_of}
 use Rattle.machine.specs.Runs.{Step, step_with, evict_steps}
-use Rattle.machine.specs.declared.Machine.{Machine}
+use Rattle.machine.specs.State.{Machine}
 use Rattle.recovery.specs.Recover.{recover_of}
 use Rattle.reference.specs.Reference.{Book, empty_book, feed_accepted, feed, cells_of}
 use Rattle.atomicity.specs.History.{start_cells, start_machine, history_of, fed_book, machine_after, book_after}
@@ -59,7 +59,7 @@ after-evicted book machine (step ∷ steps) lines =
 
 -- recovery after any steps, as one equation
 pub recovers_as : (words : List ℕ) (steps : List Step) (buffer : List ℕ) → length buffer ≡ cell_count
-    → recover_of (image_of (machine_after words steps)) buffer ≡ record { answer = Accepted 0; buffer = cells_of (book_after words steps) }
+    → recover_of (image_of (machine_after words steps)) buffer ≡ record { answer = Ok 0; buffer = cells_of (book_after words steps) }
 recovers_as words steps buffer is_buffer =
     let image : List ℕ = replicate image_words 0 in
     let found = cut_recovers words steps image buffer (length-replicate {A = ℕ} image_words 0) is_buffer in
@@ -71,5 +71,5 @@ recovers_as words steps buffer is_buffer =
 pub any_eviction : AnyEviction
 any_eviction words steps cut lines buffer within is_buffer =
     recovers_as words (take cut steps ++ evictions lines) buffer is_buffer ∙
-    ap (λ (book : Book). record { answer = Accepted 0; buffer = cells_of book })
+    ap (λ (book : Book). record { answer = Ok 0; buffer = cells_of book })
     (after-evicted (empty_book (start_cells words)) (start_machine words) (take cut steps) lines)

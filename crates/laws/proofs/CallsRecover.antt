@@ -2,7 +2,7 @@
 use mathlib.Core.Path.{◌≡◌, refl, sym, ap, ◌∙◌}
 use mathlib.Core.List.{List, [], ◌∷◌}
 use Rattle.machine.specs.Runs.{Step, step_with, after}
-use Rattle.machine.specs.declared.Machine.{Machine}
+use Rattle.machine.specs.State.{Machine}
 use Rattle.machine.proofs.Reaching.{after_append}
 use Rattle.batch.specs.Batch.{log_cells_of, first_logs}
 use Rattle.batch.specs.declared.CellsLogged.{CellsLogged}

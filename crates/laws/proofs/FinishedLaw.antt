@@ -1,5 +1,6 @@
 -- The law on refusal 15: the machine finds the oldest region of a log finished exactly when the thread has a finished region that the
 -- reference model has not committed, and then its oldest uncommitted region is one.
+use Rattle.std.specs.Prelude.{None, Option, Some}
 use Prim.Native.Nat.{ℕ, zero, suc, ◌+◌, ◌-◌, ◌≤◌, ◌<◌}
 use native.Mathlib.Decide.{dec_lt}
 use native.Mathlib.Nat.{not-suc-le-zero, zero-add, add-zero, add-suc, suc-add}
@@ -8,13 +9,10 @@ use mathlib.Core.Path.{◌≡◌, refl, sym, ap, ◌∙◌}
 use mathlib.Core.Bool.{Bool, true, false, cond, not, ◌&&◌, true≢false}
 use mathlib.Core.List.{List, [], ◌∷◌}
 use mathlib.Core.Logic.{◌⊎◌, inl, inr, ⊎_elim, by_cases}
-use mathlib.Core.Option.{none, some}
 use lib.Dec.{eqb, ltb}
 use borrow.Author.Tests.{ltb-false, ne_eqb}
 use Rattle.sizes.specs.Sizes.{thread_count}
 use Rattle.tail.specs.Tail.{is_releasing}
-use Rattle.tail.specs.declared.Releasing.{Releasing}
-use Rattle.tail.specs.declared.Releasing.TheVariants.{Nothing, Lock}
 use Rattle.thread_log.specs.Entries.{live_count}
 use Rattle.thread_log.specs.declared.Log.{Log}
 use Rattle.event.specs.Events.{sync_count}
@@ -25,7 +23,7 @@ use Rattle.event.specs.declared.Event.TheVariants.{Empty, Store, Acquire, Releas
 use Rattle.event.specs.declared.SyncCount.{SyncCount}
 use Rattle.undo.proofs.UndoInvariant.{UndoHolds}
 use Rattle.undo.proofs.RegionLaws.{RegionIs, live-event, oldest-region}
-use Rattle.machine.specs.declared.Machine.{Machine}
+use Rattle.machine.specs.State.{Machine}
 use Rattle.reference.specs.Reference.{Region, empty_book, is_committed_at}
 use Rattle.atomicity.specs.History.{Fed, step_at, fed_book, Joined}
 use Rattle.atomicity.specs.HappensBefore.{Accepted}
@@ -46,7 +44,7 @@ use Rattle.atomicity.proofs.PruneKeeps.{finished_cases}
 
 -- the thread's oldest uncommitted region is the first uncommitted one of its
 oldest_first : (thread : ℕ) (regions : List Region) (place from : ℕ) → First (is_uncommitted_of thread) regions place
-    → oldest_from thread regions from ≡ some (from + place)
+    → oldest_from thread regions from ≡ Some (from + place)
 unfolding oldest_from
 oldest_first thread [] place from first = absurd (not-suc-le-zero first.in_range)
 oldest_first thread (region ∷ regions) zero from first = rw (first.holds, add-zero from)
@@ -55,7 +53,7 @@ oldest_first thread (region ∷ regions) (suc place) from first =
     (oldest_first thread regions place (suc from) (first_rest first))
 
 oldest_none : (thread : ℕ) (regions : List Region) (from : ℕ) → NoneOf (is_uncommitted_of thread) regions
-    → oldest_from thread regions from ≡ none
+    → oldest_from thread regions from ≡ None
 unfolding oldest_from
 oldest_none thread [] from fails = refl
 oldest_none thread (region ∷ regions) from fails =
@@ -68,7 +66,7 @@ not-committed true false both = refl
 not-committed false committed both = absurd (true≢false (sym both))
 
 -- the thread's oldest uncommitted region is not committed
-oldest_committed : (thread place : ℕ) (regions : List Region) → oldest_from thread regions 0 ≡ some place
+oldest_committed : (thread place : ℕ) (regions : List Region) → oldest_from thread regions 0 ≡ Some place
     → is_committed_at regions place ≡ false
 oldest_committed thread place regions is_oldest =
     ⊎_elim
@@ -253,7 +251,7 @@ module _ {start : Beginning} {machine : Machine} {history : List Fed} (run_holds
       let is_first = oldest_first thread regions (run_holds.home thread first) 0 (oldest-uncommitted run_holds.regions made_first) in
       record {
         region = run_holds.home thread first;
-        is_oldest = is_first ∙ ap some (zero-add (run_holds.home thread first));
+        is_oldest = is_first ∙ ap Some (zero-add (run_holds.home thread first));
         is_finished =
             rw (← together)
             (⊎_elim
@@ -288,10 +286,10 @@ module _ {start : Beginning} {machine : Machine} {history : List Fed} (run_holds
       ((step_at history release).place, entry.0, rw took.is_thread at entry.1, entry.2)
 
   -- a RELEASE step at the thread's last entry: the thread is not closing
-  not-closing : {release : ℕ} → Took history thread release 6 → suc (stands_at release) ≡ log.tail.next.0 → (releasing : Releasing)
+  not-closing : {release : ℕ} → Took history thread release 6 → suc (stands_at release) ≡ log.tail.next.0 → (releasing : Option ℕ)
       → log.tail.releasing ≡ releasing → is_releasing releasing ≡ false
-  not-closing took is_last Nothing is = refl
-  not-closing {release} took is_last (Lock lock) is =
+  not-closing took is_last None is = refl
+  not-closing {release} took is_last (Some lock) is =
       let entry = release-entry took in
       let waits = run_holds.machine_holds.locks.last_while is in
       let is_next = waits.1 in

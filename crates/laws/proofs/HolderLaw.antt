@@ -1,4 +1,5 @@
 -- The law on refusals 12 and 13: a lock's holder is the thread of the last accepted ACQUIRE or RELEASE of the lock, if that is an ACQUIRE.
+use Rattle.std.specs.Prelude.{None, Option, Some}
 use Prim.Native.Nat.{ℕ, ◌-◌, ◌<◌}
 use native.Mathlib.Decide.{dec_lt}
 use native.Mathlib.Omega.{arith}
@@ -16,16 +17,16 @@ use Rattle.undo.specs.Regions.{oldest_region}
 use Rattle.event.specs.declared.Event.{Event}
 use Rattle.event.specs.declared.Event.TheVariants.{Empty, Store, Acquire, Release}
 use Rattle.locks.specs.Locks.{no_lock, is_held, is_held_by, taken_by, freed_of, one_pruned, pruned_locks}
-use Rattle.locks.specs.declared.Holder.{Holder}
-use Rattle.locks.specs.declared.Holder.TheVariants.{Nobody, Thread}
 use Rattle.locks.specs.declared.Lock.{Lock}
 use Rattle.machine.specs.Effects.{load_effect, first_log_effect, store_effect, acquire_effect, log_release_effect, release_effect, flush_effect}
 use Rattle.machine.specs.Effects.{flush_log_effect, fence_effect, prune_effect, evict_log_effect, evict_cell_effect, effect}
 use Rattle.machine.specs.Effects.{evict_words_effect}
 use Rattle.machine.specs.Holds.{log_of, lock_of}
-use Rattle.kinds.specs.Kinds.{Kind, LOAD, LOG, STORE, ACQUIRE, LOGREL, RELEASE, FLUSH, FLUSHLOG, FENCE, PRUNE, EVICTLOG}
-use Rattle.kinds.specs.Kinds.{EVICTCELL, EVICTWORDS}
-use Rattle.machine.specs.declared.Machine.{Machine}
+use Rattle.kinds.specs.declared.Kind.{Kind}
+use Rattle.kinds.specs.declared.Kind.TheVariants.{Load as LOAD, Log as LOG, Store as STORE, Acquire as ACQUIRE, LogRel as LOGREL}
+use Rattle.kinds.specs.declared.Kind.TheVariants.{Release as RELEASE, Flush as FLUSH, FlushLog as FLUSHLOG, Fence as FENCE, Prune as PRUNE}
+use Rattle.kinds.specs.declared.Kind.TheVariants.{EvictLog as EVICTLOG, EvictCell as EVICTCELL, EvictWords as EVICTWORDS}
+use Rattle.machine.specs.State.{Machine}
 use Rattle.machine.proofs.LogCases.{log_cases}
 use Rattle.machine.proofs.AcceptedMeans.{acquire_asked, release_asked}
 use Rattle.machine.proofs.StepLaws.{tests_of}
@@ -33,7 +34,8 @@ use Rattle.machine.proofs.Beginnings.{fresh_logs, fresh-all, lock-free, on-start
 use Rattle.machine.proofs.Sizes.{Sized, effect-sized, begin_sized}
 use Rattle.atomicity.specs.History.{Fed, step_at, start_machine}
 use Rattle.laws.specs.RefusalLaws.{OfLock, Holds, HolderLaw}
-use Rattle.atomicity.proofs.Holding.{nobody_holds, held_by}
+use Rattle.atomicity.proofs.Locks.{never-both}
+use Rattle.atomicity.proofs.Holding.{held_by}
 use Rattle.atomicity.proofs.HistoryRuns.{kind_number, took_step, run-keeps}
 use Rattle.atomicity.proofs.Ordered.{and_then, accepted-inside}
 use Rattle.atomicity.proofs.Places.{length-then, step-before, step-new}
@@ -143,11 +145,11 @@ module _ (history : List Fed) (fed : Fed) where
       (of-cases holds.is_acquire)
 
 -- the holder is who holds the lock by the history
-record HolderIs (holder : Holder) (history : List Fed) (lock : ℕ) : Type 0 where
-  holds : {thread : ℕ} → holder ≡ Thread thread → Holds history thread lock
-  is_holder : {thread : ℕ} → Holds history thread lock → holder ≡ Thread thread
+record HolderIs (holder : Option ℕ) (history : List Fed) (lock : ℕ) : Type 0 where
+  holds : {thread : ℕ} → holder ≡ Some thread → Holds history thread lock
+  is_holder : {thread : ℕ} → Holds history thread lock → holder ≡ Some thread
 
-holder_still : {before after : Holder} {history : List Fed} {lock : ℕ} (fed : Fed) → (IsOf fed 4 lock → ⊥) → (IsOf fed 6 lock → ⊥)
+holder_still : {before after : Option ℕ} {history : List Fed} {lock : ℕ} (fed : Fed) → (IsOf fed 4 lock → ⊥) → (IsOf fed 6 lock → ⊥)
     → after ≡ before → HolderIs before history lock → HolderIs after (and_then history fed) lock
 holder_still {history = history} fed no_acquire no_release same is = record {
   holds = λ is_held. holds-still history fed no_acquire no_release (is.holds (sym same ∙ is_held));
@@ -228,7 +230,7 @@ module _ (machine : Machine) (history : List Fed) (hold : HoldersHold machine hi
               (λ lock state. HolderIs state.holder (and_then history fed) lock)
               (record {
                 holds = λ {thread = other} is_held. let same : thread ≡ other = cc in rw (← same) (holds-new history fed is);
-                is_holder = λ holds. ap Thread (sym (holds-only history fed is holds));
+                is_holder = λ holds. ap Some (sym (holds-only history fed is holds));
               })
               (λ other differs.
               holder_still fed (λ is. differs (sym is.is_lock)) (λ is. differs (sym is.is_lock)) refl (hold.holders other));
@@ -250,7 +252,7 @@ module _ (machine : Machine) (history : List Fed) (hold : HoldersHold machine hi
               (rw hold.sized.locks (release_asked machine thread place value fails).in_lock)
               (λ lock state. HolderIs state.holder (and_then history fed) lock)
               (record {
-                holds = λ is_held. nobody_holds refl is_held;
+                holds = λ is_held. never-both refl is_held;
                 is_holder = λ holds. absurd (holds-none history fed is holds);
               })
               (λ other differs.
@@ -288,15 +290,15 @@ start_holders : (words : List ℕ) → HoldersHold (start_machine words) []
 start_holders = on-start (λ machine. HoldersHold machine []) (λ cells is_length. record {
   sized = begin_sized cells fresh_logs fresh-all;
   holders = λ lock. record {
-    holds = λ is_held. nobody_holds (ap (λ (state : Lock). state.holder) (lock-free fresh_logs fresh-all cells lock)) is_held;
+    holds = λ is_held. never-both (ap (λ (state : Lock). state.holder) (lock-free fresh_logs fresh-all cells lock)) is_held;
     is_holder = λ holds. absurd (false≢true holds.is_acquire.is_step.is_accepted);
   };
 })
 
 -- what the tests on a holder ask
-anyone : (holder : Holder) → is_held holder ≡ true → (thread : ℕ) × (holder ≡ Thread thread)
-anyone Nobody is_held = absurd (false≢true is_held)
-anyone (Thread thread) is_held = (thread, refl)
+anyone : (holder : Option ℕ) → is_held holder ≡ true → (thread : ℕ) × (holder ≡ Some thread)
+anyone None is_held = absurd (false≢true is_held)
+anyone (Some thread) is_held = (thread, refl)
 
 pub holder_law : HolderLaw
 holder_law words steps lock =
@@ -316,6 +318,6 @@ holder_law words steps lock =
       },
       λ thread. record {
         only = λ is_held. is.holds (held_by _ thread is_held);
-        always = λ holds. ap (λ (holder : Holder). is_held_by holder thread) (is.is_holder holds) ∙ eq-eqb thread thread refl;
+        always = λ holds. ap (λ (holder : Option ℕ). is_held_by holder thread) (is.is_holder holds) ∙ eq-eqb thread thread refl;
       },
     )

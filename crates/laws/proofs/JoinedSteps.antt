@@ -2,9 +2,9 @@
 use Prim.Native.Nat.{ℕ}
 use mathlib.Core.Path.{◌≡◌, refl}
 use mathlib.Core.List.{List}
-use mathlib.Core.Option.{some}
+use Rattle.std.specs.Prelude.{Some}
 use Rattle.event.specs.declared.Event.{Event}
-use Rattle.machine.specs.declared.Machine.{Machine}
+use Rattle.machine.specs.State.{Machine}
 use Rattle.reference.specs.Reference.{Book, joins}
 use Rattle.atomicity.specs.History.{Fed, book_before, Joined}
 use Rattle.atomicity.proofs.Logged.{Entries, Made}
@@ -15,7 +15,7 @@ use Rattle.atomicity.proofs.MachineInvariant.{Beginning, entries_of}
 
 -- the steps that make an entry join a region
 joins-some : {event : Event} → Formed event → (book : Book) (thread : ℕ)
-    → (region : ℕ) × (joins book (step_kind_of event) thread ≡ some region)
+    → (region : ℕ) × (joins book (step_kind_of event) thread ≡ Some region)
 joins-some (a_store in_range) book thread = (joined_place book thread, joins_log book thread)
 joins-some (an_acquire in_range) book thread = (_, joins_acquire book thread)
 joins-some (a_release in_range) book thread = (joined_place book thread, joins_release book thread)

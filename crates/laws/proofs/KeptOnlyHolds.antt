@@ -7,7 +7,7 @@ use mathlib.Core.Path.{◌≡◌, refl, sym, ap, ◌∙◌, subst}
 use mathlib.Core.Bool.{Bool, true, false, cond, ◌&&◌, ◌||◌, true≢false}
 use mathlib.Core.List.{List, [], ◌∷◌, ◌++◌}
 use mathlib.Core.Logic.{◌≢◌, by_cases}
-use mathlib.Core.Option.{some}
+use Rattle.std.specs.Prelude.{Some}
 use lib.ListN.{length, get_or, set, get_or-eq_default}
 use lib.Dec.{eqb}
 use borrow.Author.Tests.{lt-ltb, eq-eqb}
@@ -28,15 +28,17 @@ use Rattle.thread_log.specs.declared.Log.{Log}
 use Rattle.thread_log.proofs.SlotLaws.{slot-word, persist-word, run_elsewhere}
 use Rattle.undo.specs.Entering.{end_release_of}
 use Rattle.kinds.specs.Kinds.{kind_of}
-use Rattle.kinds.specs.Kinds.{Kind, LOAD, LOG, STORE, ACQUIRE, LOGREL, RELEASE, FLUSH, FLUSHLOG, FENCE, PRUNE, EVICTLOG}
-use Rattle.kinds.specs.Kinds.{EVICTCELL, EVICTWORDS}
+use Rattle.kinds.specs.declared.Kind.{Kind}
+use Rattle.kinds.specs.declared.Kind.TheVariants.{Load as LOAD, Log as LOG, Store as STORE, Acquire as ACQUIRE, LogRel as LOGREL}
+use Rattle.kinds.specs.declared.Kind.TheVariants.{Release as RELEASE, Flush as FLUSH, FlushLog as FLUSHLOG, Fence as FENCE, Prune as PRUNE}
+use Rattle.kinds.specs.declared.Kind.TheVariants.{EvictLog as EVICTLOG, EvictCell as EVICTCELL, EvictWords as EVICTWORDS}
 use Rattle.machine.specs.Effects.{effect, load_effect, first_log_effect, store_effect, acquire_effect, log_release_effect, release_effect}
 use Rattle.machine.specs.Effects.{flush_effect, flush_log_effect, fence_effect, prune_effect, evict_log_effect}
 use Rattle.machine.specs.Effects.{evict_cell_effect, evict_words_effect}
 use Rattle.machine.specs.Holds.{no_log, log_of}
 use Rattle.machine.specs.Image.{image_of}
 use Rattle.machine.specs.Runs.{Step, step_with, Reached}
-use Rattle.machine.specs.declared.Machine.{Machine}
+use Rattle.machine.specs.State.{Machine}
 use Rattle.machine.proofs.LogCases.{log_cases}
 use Rattle.machine.proofs.ImageWritten.{reads, cell_at, word_at}
 use Rattle.machine.proofs.Reaching.{after_then}
@@ -288,19 +290,19 @@ module _ (machine : Machine) (sized : Sized machine) (cache_sized : CacheLaws.Si
   in_logs = rw sized.logs in_thread
 
   -- the words that a FENCE leaves are neither of a marked line nor of a marked entry
-  neither-fenced : (word : ℕ) → altered_by machine (some FENCE) thread place value word ≡ false
+  neither-fenced : (word : ℕ) → altered_by machine (Some FENCE) thread place value word ≡ false
       → (is_pending_word machine.cache thread word ≡ false) × (is_flushed_word (log_of machine thread) thread word ≡ false)
   unfolding altered_by
   neither-fenced word = neither (is_pending_word machine.cache thread word) (is_flushed_word (log_of machine thread) thread word)
 
   effect-kept : (kind : Kind)
-      → Kept (altered_by machine (some kind) thread place value) machine (effect machine kind thread place value).machine
+      → Kept (altered_by machine (Some kind) thread place value) machine (effect machine kind thread place value).machine
   unfolding effect load_effect first_log_effect store_effect acquire_effect log_release_effect release_effect flush_effect flush_log_effect fence_effect
       prune_effect evict_log_effect evict_cell_effect evict_words_effect append_of flush_log_of end_release_of altered_by
   effect-kept LOAD = same-logs same-cells refl
   effect-kept LOG =
       log_cases
-      (λ stepped. Kept (altered_by machine (some LOG) thread place value) machine stepped.machine)
+      (λ stepped. Kept (altered_by machine (Some LOG) thread place value) machine stepped.machine)
       machine
       thread
       place
@@ -331,7 +333,7 @@ step_kept : (machine : Machine) → Sized machine → CacheLaws.Sized machine.ca
 step_kept machine sized cache_sized step =
     step-cases machine
     (λ stepped. Kept (λ word. is_accepted stepped.answer && by_kind word) machine stepped.machine)
-    (λ answer is_refusal. same-logs (all-cells (λ cell. refl)) refl)
+    (λ refusal. same-logs (all-cells (λ cell. refl)) refl)
     step.kind
     step.thread
     step.place

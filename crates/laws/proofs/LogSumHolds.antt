@@ -1,4 +1,5 @@
 -- The log's sum holds: each step changes the number of live entries by those that it appends and those that it frees.
+use Rattle.std.specs.Prelude.{Option}
 use Prim.Native.Nat.{ℕ, zero, suc, ◌+◌, ◌<◌, ◌≤◌}
 use mathlib.Core.Path.{◌≡◌, refl, sym, ap, subst}
 use mathlib.Core.Bool.{false, cond, not, ◌&&◌, ◌||◌}
@@ -8,16 +9,15 @@ use lib.Dec.{eqb}
 use lib.ListN.{length, get_or, set}
 use Rattle.sizes.specs.Sizes.{thread_count, entry_words}
 use Rattle.answer.specs.Answer.{is_accepted, value_of}
-use Rattle.answer.specs.declared.Answer.{Answer}
-use Rattle.answer.proofs.Beside.{beside_a_refusal}
+use Rattle.answer.specs.Answer.{Answer}
 use Rattle.answer.proofs.ListLaws.{cond_same}
 use Rattle.answer.proofs.RefusalLaws.{AllFail}
 use Rattle.cache.specs.Cache.{cached_at}
+use Rattle.ring.specs.declared.Lsn.{Lsn}
 use Rattle.thread_log.specs.Entries.{live_count, flush_log_of, fence_log_of, evict_words_of, drop_of, append_of}
 use Rattle.undo.specs.Entering.{enter_of, end_release_of}
 use Rattle.event.specs.declared.Event.TheVariants.{Store, Acquire, Release}
 use Rattle.undo.specs.Regions.{oldest_region, is_found}
-use Rattle.undo.specs.declared.Found.{Found}
 use Rattle.tail.specs.Tail.{flushed_tail, fenced_tail, released_tail}
 use Rattle.append.specs.Append.{grown_tail}
 use Rattle.thread_log.specs.declared.Log.{Log}
@@ -25,11 +25,13 @@ use Rattle.region.proofs.OldestLaws.{region-live}
 use Rattle.machine.specs.Effects.{load_effect, first_log_effect, store_effect, acquire_effect, log_release_effect, release_effect, flush_effect}
 use Rattle.machine.specs.Effects.{flush_log_effect, fence_effect, prune_effect, evict_log_effect, evict_cell_effect, effect}
 use Rattle.machine.specs.Effects.{evict_words_effect}
-use Rattle.kinds.specs.Kinds.{Kind, LOAD, LOG, STORE, ACQUIRE, LOGREL, RELEASE, FLUSH, FLUSHLOG, FENCE, PRUNE, EVICTLOG}
-use Rattle.kinds.specs.Kinds.{EVICTCELL, EVICTWORDS}
+use Rattle.kinds.specs.declared.Kind.{Kind}
+use Rattle.kinds.specs.declared.Kind.TheVariants.{Load as LOAD, Log as LOG, Store as STORE, Acquire as ACQUIRE, LogRel as LOGREL}
+use Rattle.kinds.specs.declared.Kind.TheVariants.{Release as RELEASE, Flush as FLUSH, FlushLog as FLUSHLOG, Fence as FENCE, Prune as PRUNE}
+use Rattle.kinds.specs.declared.Kind.TheVariants.{EvictLog as EVICTLOG, EvictCell as EVICTCELL, EvictWords as EVICTWORDS}
 use Rattle.machine.specs.Holds.{no_log, log_of, lock_of}
 use Rattle.machine.specs.Runs.{Step, step_with, after}
-use Rattle.machine.specs.declared.Machine.{Machine}
+use Rattle.machine.specs.State.{Machine}
 use Rattle.machine.specs.declared.Stepped.{Stepped}
 use Rattle.machine.proofs.Beginnings.{machine_with, AllIdle, each-log, fresh_logs, fresh-all, on-start}
 use Rattle.machine.proofs.Sizes.{Sized, effect-sized, begin_sized}
@@ -72,7 +74,7 @@ abbrev appended : Machine → Step → Answer → ℕ
 appended machine step answer = cond (is_accepted answer && appends machine step) 1 0
 
 -- how many an accepted LOG appends, where the search for the cell's entry found this
-abbrev log_appends : Found → ℕ
+abbrev log_appends : Option Lsn → ℕ
 log_appends found = cond (not (is_found found) || false || false) 1 0
 
 -- what a step leads to: what it freed and what is live now is what it appended and what was live
@@ -166,19 +168,13 @@ effect_balanced machine headed kind thread place value fails =
     by_kind EVICTWORDS sized in_range order =
         balanced-log machine headed _ _ sized thread (evict_words_of (log_of machine thread) place value) in_range refl order refl
 
--- a refused step frees and appends nothing
-refusal_balance : (machine : Machine) (step : Step) (answer : Answer) → is_accepted answer ≡ false →
-    freed step.kind answer ≡ appended machine step answer
-refusal_balance machine step answer is_refusal =
-    rw (is_refusal, beside_a_refusal answer is_refusal) (cond_same (eqb step.kind 10) 0)
-
--- every step keeps the balance
+-- every step keeps the balance: a refused one frees and appends nothing
 step_balanced : (machine : Machine) → Headed machine → (step : Step) → Balanced machine step (step_with machine step)
 step_balanced machine headed step =
     step-cases
     machine
     (Balanced machine step)
-    (λ answer is_refusal. record { headed = headed; balance = rw (refusal_balance machine step answer is_refusal) })
+    (λ refusal. record { headed = headed; balance = rw (cond_same {A = ℕ} (eqb step.kind 10) 0) })
     step.kind
     step.thread
     step.place

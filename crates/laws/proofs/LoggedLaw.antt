@@ -1,5 +1,6 @@
 -- The law on refusal 10, and on which LOGs append nothing: the machine finds a cell's entry in a thread's current region exactly when an
 -- accepted LOG of the cell joined the region that the reference model has open for the thread.
+use Rattle.std.specs.Prelude.{None, Option, Some}
 use Prim.Native.Nat.{ℕ, suc, ◌-◌, ◌≤◌, ◌<◌}
 use native.Mathlib.Decide.{dec_lt, ℕ_discrete}
 use native.Mathlib.Omega.{arith}
@@ -8,11 +9,10 @@ use mathlib.Core.Bool.{Bool, true, false, false≢true}
 use mathlib.Core.List.{List}
 use mathlib.Core.Logic.{inl, inr, ⊎_elim, by_cases}
 use Rattle.sizes.specs.Sizes.{thread_count}
+use Rattle.ring.specs.declared.Lsn.{Lsn}
 use Rattle.thread_log.specs.declared.Log.{Log}
 use Rattle.undo.specs.Regions.{logged_of, is_found}
-use Rattle.undo.specs.declared.Found.{Found}
-use Rattle.undo.specs.declared.Found.TheVariants.{Nowhere, At}
-use Rattle.machine.specs.declared.Machine.{Machine}
+use Rattle.machine.specs.State.{Machine}
 use Rattle.reference.specs.Reference.{Region}
 use Rattle.atomicity.specs.History.{Fed, step_at}
 use Rattle.laws.specs.RefusalLaws.{Logged, LoggedLaw}
@@ -70,9 +70,9 @@ module _ {start : Beginning} {machine : Machine} {history : List Fed} (run_holds
   abbrev log : Log
   log = log_at machine.logs thread
 
-  logged-only : (found : Found) → logged_of log cell ≡ found → is_found found ≡ true → Logged start.cells history thread cell
-  logged-only Nowhere is is_found = absurd (false≢true is_found)
-  logged-only (At number) is is_found =
+  logged-only : (found : Option Lsn) → logged_of log cell ≡ found → is_found found ≡ true → Logged start.cells history thread cell
+  logged-only None is is_found = absurd (false≢true is_found)
+  logged-only (Some number) is is_found =
       let found = logged-entry run_holds.machine_holds thread cell 0 in_range number is in
       let step = run_holds.machine_holds.times.entry_step found.1 in
       record {
@@ -84,9 +84,9 @@ module _ {start : Beginning} {machine : Machine} {history : List Fed} (run_holds
         is_joined = step-joined run_holds found.1.made;
       }
 
-  logged-always : (found : Found) → logged_of log cell ≡ found → Logged start.cells history thread cell → is_found found ≡ true
-  logged-always (At number) is logged = refl
-  logged-always Nowhere is logged =
+  logged-always : (found : Option Lsn) → logged_of log cell ≡ found → Logged start.cells history thread cell → is_found found ≡ true
+  logged-always (Some number) is logged = refl
+  logged-always None is logged =
       ⊎_elim
       (λ goes_on. absurd (nowhere goes_on.0 goes_on.1))
       (λ ended. let is_none = open-is-none (book_of start history) run_holds.regions ended in let is_open = logged.is_open in cc)

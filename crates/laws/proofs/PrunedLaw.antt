@@ -3,11 +3,11 @@ use Prim.Native.Nat.{ℕ}
 use mathlib.Core.Path.{◌≡◌, sym, ap, ◌∙◌}
 use mathlib.Core.Bool.{Bool}
 use mathlib.Core.List.{List}
-use mathlib.Core.Option.{some}
+use Rattle.std.specs.Prelude.{Some}
 use lib.ListN.{length}
 use Rattle.answer.specs.Lists.{count_below}
 use Rattle.answer.proofs.BelowLaws.{count_below-same}
-use Rattle.machine.specs.declared.Machine.{Machine}
+use Rattle.machine.specs.State.{Machine}
 use Rattle.reference.specs.Reference.{joins, is_committed_at}
 use Rattle.atomicity.specs.History.{Fed, step_at, book_before}
 use Rattle.laws.specs.PrunedRegions.{ends_committed, PrunedLaw}
@@ -34,7 +34,7 @@ module _ {start : Beginning} {machine : Machine} {history : List Fed} (run_holds
       releases_agree (step_at history place) lock _ _ (λ releases.
       let thread = (step_at history place).thread in
       let book = book_before start.cells history place in
-      let joined_region : joins book (step_at history place).kind thread ≡ some (joined_place book thread) =
+      let joined_region : joins book (step_at history place).kind thread ≡ Some (joined_place book thread) =
       ap (λ (kind : ℕ). joins book kind thread) releases.is_kind ∙ joins_release book thread in
       let found =
       run_holds.joined place (joined_place book thread) (record { is_accepted = releases.is_accepted; joined_region = joined_region }) in

@@ -1,5 +1,6 @@
 -- The eight EVICTCELL steps of a line leave what the retired step 11 gave: each is accepted whatever the state, and the cells of a line,
 -- evicted one after the other, are the line evicted.
+use Rattle.std.specs.Prelude.{Ok}
 use Prim.Native.Nat.{ℕ, zero, suc, ◌+◌, ◌*◌, ◌≤◌, ◌<◌}
 use native.Mathlib.Decide.{dec_lt}
 use native.Mathlib.Omega.{arith}
@@ -11,9 +12,9 @@ use lib.ListN.{replicate}
 use lib.Dec.{eqb, ltb}
 use borrow.Author.Tests.{lt-ltb, le-ltb}
 use Rattle.answer.specs.Lists.{tab}
-use Rattle.answer.specs.declared.Answer.{Answer}
+use Rattle.answer.specs.Answer.{Answer}
 use Rattle.answer.specs.Refusals.{Test, ◌⇒◌, unless}
-use Rattle.answer.specs.declared.Answer.TheVariants.{Accepted, NoSuchThread, NoSuchPlace, UnusedField}
+use Rattle.answer.specs.declared.Refusal.TheVariants.{NoSuchThread, NoSuchPlace, UnusedField}
 use Rattle.answer.proofs.ListLaws.{tab-last}
 use Rattle.cache.specs.Cache.{line_count}
 use Rattle.cache.proofs.CacheLaws as CacheLaws
@@ -23,7 +24,7 @@ use Rattle.machine.specs.Holds.{with_cache}
 use Rattle.machine.specs.Image.{image_of}
 use Rattle.machine.specs.Runs.{Step, step_with, after, answers, evict_steps, Reached}
 use Rattle.machine.specs.Steps.{refused, step_of}
-use Rattle.machine.specs.declared.Machine.{Machine}
+use Rattle.machine.specs.State.{Machine}
 use Rattle.machine.specs.declared.Stepped.{Stepped}
 use Rattle.machine.proofs.Evictions.{evict-cell-taken, evict-cell-refused}
 use Rattle.machine.proofs.Reaching.{after_then}
@@ -39,8 +40,8 @@ cache-sized machine reached =
 
 -- steps that every machine accepts with 0
 all-accepted : (count : ℕ) (steps : ℕ → Step) →
-    ((machine : Machine) (index : ℕ) → index < count → (step_with machine (steps index)).answer ≡ Accepted 0) →
-    (machine : Machine) → answers machine (tab count steps) ≡ replicate count (Accepted 0)
+    ((machine : Machine) (index : ℕ) → index < count → (step_with machine (steps index)).answer ≡ Ok 0) →
+    (machine : Machine) → answers machine (tab count steps) ≡ replicate count (Ok 0)
 unfolding answers tab
 all-accepted zero steps accepts machine = refl
 all-accepted (suc count) steps accepts machine =

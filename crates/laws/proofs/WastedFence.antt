@@ -17,10 +17,11 @@ use Rattle.tail.specs.Tail.{unfenced, fenced_tail}
 use Rattle.ring.specs.Ring.{lsn}
 use Rattle.thread_log.specs.Entries.{persist_from, fence_log_of}
 use Rattle.thread_log.specs.declared.Log.{Log}
-use Rattle.kinds.specs.Kinds.{FENCE, kind_of, input_tests}
+use Rattle.kinds.specs.Kinds.{input_tests}
+use Rattle.kinds.specs.declared.Kind.TheVariants.{Fence as FENCE}
 use Rattle.machine.specs.Effects.{effect, fence_effect}
 use Rattle.machine.specs.Holds.{no_log, log_of}
-use Rattle.machine.specs.declared.Machine.{Machine}
+use Rattle.machine.specs.State.{Machine}
 use Rattle.machine.specs.declared.Stepped.{Stepped}
 use Rattle.machine.proofs.PartSteps.{Accepts, fence-step}
 use Rattle.machine.proofs.Sizes.{Sized}
@@ -100,8 +101,8 @@ module _ (machine : Machine) (sized : Sized machine) (cache_sized : CacheLaws.Si
   }
 
 -- the input of a thread's FENCE is accepted
-fence_accepted : (thread : ℕ) → thread < thread_count → Accepts 9 thread 0 0
-unfolding kind_of input_tests first_refusal unless
+fence_accepted : (thread : ℕ) → thread < thread_count → Accepts FENCE thread 0 0 0
+unfolding input_tests first_refusal unless
 fence_accepted thread in_range = rw (lt-ltb thread thread_count in_range)
 
 pub wasted_fence : WastedFence

@@ -1,8 +1,7 @@
 -- Whatever lines the cache lets go just before a cut, recovery finds the same cells: those of the reference model, which evictions leave
 -- alone.
-use Rattle.std.specs.Prelude.{ℕ, ◌≤◌, ◌≡◌, length, take}
+use Rattle.std.specs.Prelude.{ℕ, ◌≤◌, ◌≡◌, length, take, Ok}
 use mathlib.Core.List.{List, ◌++◌, map, flatten}
-use Rattle.answer.specs.declared.Answer.TheVariants.{Accepted}
 use Rattle.cache.specs.Cache.{cell_count}
 use Rattle.machine.specs.Image.{image_of}
 use Rattle.machine.specs.Runs.{Step, evict_steps}
@@ -22,4 +21,4 @@ AnyEviction =
     cut ≤ length steps →
     length buffer ≡ cell_count →
     recover_of (image_of (machine_after words (take cut steps ++ evictions lines))) buffer ≡
-    record { answer = Accepted 0; buffer = cells_of (book_after words (take cut steps)) }
+    record { answer = Ok 0; buffer = cells_of (book_after words (take cut steps)) }

@@ -4,7 +4,7 @@ use Rattle.std.specs.Prelude.{ℕ, ◌≤◌, ◌≡◌, List, [], ◌∷◌, �
 use Rattle.cache.specs.Cache.{cell_count}
 use Rattle.reader.specs.Stretch.{image_words}
 use Rattle.machine.specs.Runs.{Step, step_with}
-use Rattle.machine.specs.declared.Machine.{Machine}
+use Rattle.machine.specs.State.{Machine}
 use Rattle.batch.specs.Batch.{log_cells_of, first_logs}
 use Rattle.atomicity.specs.Demand3.{Recovers}
 use Rattle.atomicity.specs.History.{start_machine, machine_after}

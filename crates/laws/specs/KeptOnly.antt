@@ -1,7 +1,6 @@
 -- "Every cell, slot and head then holds its kept content, which only FENCE, the evictions and, for heads, PRUNE alter."
 -- The kept contents are `image_of`; here it is said which of its words a step may alter, and that it alters no other.
-use Rattle.std.specs.Prelude.{ℕ, ◌+◌, ◌*◌, ◌≡◌, Bool, false, ◌&&◌, ◌||◌, List, length, get_or, eqb, ltb}
-use Rattle.std.proofs.Math.Option.{Option, none, some}
+use Rattle.std.specs.Prelude.{ℕ, ◌+◌, ◌*◌, ◌≡◌, Bool, false, ◌&&◌, ◌||◌, List, length, get_or, eqb, ltb, Option, None, Some}
 use Rattle.sizes.specs.Sizes.{entry_words}
 use Rattle.answer.specs.Answer.{is_accepted}
 use Rattle.answer.specs.Lists.{some_below}
@@ -11,12 +10,15 @@ use Rattle.ring.specs.Ring.{slot_of}
 use Rattle.tail.specs.Tail.{unfenced}
 use Rattle.reader.specs.Stretch.{image_words, heads_at, stretch_at}
 use Rattle.thread_log.specs.declared.Log.{Log}
-use Rattle.kinds.specs.Kinds.{Kind, LOAD, LOG, STORE, ACQUIRE, LOGREL, RELEASE, FLUSH, FLUSHLOG, FENCE, PRUNE, EVICTLOG}
-use Rattle.kinds.specs.Kinds.{EVICTCELL, EVICTWORDS, kind_of}
+use Rattle.kinds.specs.Kinds.{kind_of}
+use Rattle.kinds.specs.declared.Kind.{Kind}
+use Rattle.kinds.specs.declared.Kind.TheVariants.{Load as LOAD, Log as LOG, Store as STORE, Acquire as ACQUIRE, LogRel as LOGREL}
+use Rattle.kinds.specs.declared.Kind.TheVariants.{Release as RELEASE, Flush as FLUSH, FlushLog as FLUSHLOG, Fence as FENCE, Prune as PRUNE}
+use Rattle.kinds.specs.declared.Kind.TheVariants.{EvictLog as EVICTLOG, EvictCell as EVICTCELL, EvictWords as EVICTWORDS}
 use Rattle.machine.specs.Holds.{log_of}
 use Rattle.machine.specs.Image.{image_of}
 use Rattle.machine.specs.Runs.{Step, step_with}
-use Rattle.machine.specs.declared.Machine.{Machine}
+use Rattle.machine.specs.State.{Machine}
 use Rattle.atomicity.specs.History.{machine_after}
 
 -- EVICTCELL cell: the word is the cell. Cell c is word c of an image.
@@ -48,21 +50,21 @@ is_flushed_word log thread word =
 
 -- "only FENCE, the evictions and, for heads, PRUNE": the words that an accepted step may alter, by its kind and fields
 unfoldable pub altered_by : Machine → Option Kind → ℕ → ℕ → ℕ → ℕ → Bool
-altered_by machine none thread place value word = false
-altered_by machine (some LOAD) thread place value word = false
-altered_by machine (some LOG) thread place value word = false
-altered_by machine (some STORE) thread place value word = false
-altered_by machine (some ACQUIRE) thread place value word = false
-altered_by machine (some LOGREL) thread place value word = false
-altered_by machine (some RELEASE) thread place value word = false
-altered_by machine (some FLUSH) thread place value word = false
-altered_by machine (some FLUSHLOG) thread place value word = false
-altered_by machine (some FENCE) thread place value word =
+altered_by machine None thread place value word = false
+altered_by machine (Some LOAD) thread place value word = false
+altered_by machine (Some LOG) thread place value word = false
+altered_by machine (Some STORE) thread place value word = false
+altered_by machine (Some ACQUIRE) thread place value word = false
+altered_by machine (Some LOGREL) thread place value word = false
+altered_by machine (Some RELEASE) thread place value word = false
+altered_by machine (Some FLUSH) thread place value word = false
+altered_by machine (Some FLUSHLOG) thread place value word = false
+altered_by machine (Some FENCE) thread place value word =
     is_pending_word machine.cache thread word || is_flushed_word (log_of machine thread) thread word
-altered_by machine (some PRUNE) thread place value word = is_head_word thread word
-altered_by machine (some EVICTLOG) thread place value word = is_slot_word thread place word
-altered_by machine (some EVICTCELL) thread place value word = is_cell_word place word
-altered_by machine (some EVICTWORDS) thread place value word = is_first_word thread place value word
+altered_by machine (Some PRUNE) thread place value word = is_head_word thread word
+altered_by machine (Some EVICTLOG) thread place value word = is_slot_word thread place word
+altered_by machine (Some EVICTCELL) thread place value word = is_cell_word place word
+altered_by machine (Some EVICTWORDS) thread place value word = is_first_word thread place value word
 
 -- the words that a step with any four fields may alter: none where it is refused
 abbrev pub may_alter : Machine → Step → ℕ → Bool

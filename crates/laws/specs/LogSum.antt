@@ -6,7 +6,7 @@ use Rattle.thread_log.specs.Entries.{live_count}
 use Rattle.undo.specs.Regions.{is_logged}
 use Rattle.machine.specs.Holds.{log_of}
 use Rattle.machine.specs.Runs.{Step, step_with}
-use Rattle.machine.specs.declared.Machine.{Machine}
+use Rattle.machine.specs.State.{Machine}
 use Rattle.atomicity.specs.History.{start_machine, machine_after}
 
 -- the sum of a list of numbers

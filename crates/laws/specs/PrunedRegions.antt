@@ -1,6 +1,5 @@
 -- The number that refusal 16 compares, by document 01's words, and the law that the machine's counter is it.
-use Rattle.std.specs.Prelude.{ℕ, ◌<◌, ◌≡◌, Bool, false, ◌&&◌, List, length, eqb}
-use Rattle.std.proofs.Math.Option.{Option, none, some}
+use Rattle.std.specs.Prelude.{ℕ, ◌<◌, ◌≡◌, Bool, false, ◌&&◌, List, length, eqb, Option, None, Some}
 use Rattle.sizes.specs.Sizes.{lock_count}
 use Rattle.answer.specs.Lists.{count_below}
 use Rattle.machine.specs.Holds.{lock_of}
@@ -10,8 +9,8 @@ use Rattle.atomicity.specs.History.{Fed, step_at, fed_book, start_cells, machine
 
 -- the region at this place is committed, where there is one
 abbrev pub is_committed_in : Book → Option ℕ → Bool
-is_committed_in book none = false
-is_committed_in book (some place) = is_committed_at book.regions place
+is_committed_in book None = false
+is_committed_in book (Some place) = is_committed_at book.regions place
 
 -- the step at this place is an accepted LOGREL (5) of the lock, and the region that it joined, and so ended, is committed by now
 unfoldable pub ends_committed : List ℕ → List Fed → ℕ → ℕ → Bool

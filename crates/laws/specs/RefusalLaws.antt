@@ -1,7 +1,6 @@
 -- Refusals 10, 12, 13 and 15 by document 01's words, over the history and the reference model that was fed it, and the laws that the
 -- machine's tests decide them.
-use Rattle.std.specs.Prelude.{ℕ, suc, ◌<◌, ◌≡◌, Bool, true, false, cond, not, ◌&&◌, List, [], ◌∷◌, eqb}
-use Rattle.std.proofs.Math.Option.{Option, none, some}
+use Rattle.std.specs.Prelude.{ℕ, suc, ◌<◌, ◌≡◌, Bool, true, false, cond, not, ◌&&◌, List, [], ◌∷◌, eqb, Option, None, Some}
 use Rattle.sizes.specs.Sizes.{thread_count}
 use Rattle.cache.specs.Cache.{cell_count}
 use Rattle.undo.specs.Regions.{is_logged, is_finished}
@@ -21,7 +20,7 @@ pub record Decides (test : Bool) (condition : Type 0) : Type 0 where
 -- "the cell has .. an entry in this thread's current region": an accepted LOG (2) of the cell joined the thread's open region
 pub record Logged (cells : List ℕ) (history : List Fed) (thread cell : ℕ) : Type 0 where
   pub region : ℕ
-  pub is_open : open_of (fed_book (empty_book cells) history) thread ≡ some region
+  pub is_open : open_of (fed_book (empty_book cells) history) thread ≡ Some region
   pub place : ℕ
   pub is_log : Accepted history place 2
   pub is_cell : (step_at history place).place ≡ cell
@@ -87,14 +86,14 @@ pub record Unpruned (cells : List ℕ) (history : List Fed) (thread : ℕ) : Typ
 
 -- the place of the thread's oldest uncommitted region, counted from this number on: the one that PRUNE commits in the reference model
 unfoldable pub oldest_from : ℕ → List Region → ℕ → Option ℕ
-oldest_from thread [] place = none
+oldest_from thread [] place = None
 oldest_from thread (region ∷ regions) place =
-    cond (eqb region.thread thread && not region.is_committed) (some place) (oldest_from thread regions (suc place))
+    cond (eqb region.thread thread && not region.is_committed) (Some place) (oldest_from thread regions (suc place))
 
 -- the thread's oldest region that is not pruned is finished
 pub record OldestFinished (cells : List ℕ) (history : List Fed) (thread : ℕ) : Type 0 where
   pub region : ℕ
-  pub is_oldest : oldest_from thread (fed_book (empty_book cells) history).regions 0 ≡ some region
+  pub is_oldest : oldest_from thread (fed_book (empty_book cells) history).regions 0 ≡ Some region
   pub is_finished : Finished cells history thread region
 
 -- the law on refusal 15: "no finished region is unpruned". Where one is, the oldest that is not pruned is finished, so what PRUNE commits

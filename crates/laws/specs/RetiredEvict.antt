@@ -1,15 +1,15 @@
 -- "Prove that machine and image after the eight are what the retired step gave. .. A bad field in such a text line is answered as before."
 -- (document 02, of step 11, the eviction of a line)
-use Rattle.std.specs.Prelude.{ℕ, ◌<◌, ◌≡◌, not, ◌||◌, List, [], ◌∷◌, replicate, eqb, ltb}
+use Rattle.std.specs.Prelude.{ℕ, ◌<◌, ◌≡◌, not, ◌||◌, List, [], ◌∷◌, replicate, eqb, ltb, Ok}
 use Rattle.answer.specs.Refusals.{Test, ◌⇒◌, unless}
-use Rattle.answer.specs.declared.Answer.TheVariants.{Accepted, NoSuchThread, NoSuchPlace, UnusedField}
+use Rattle.answer.specs.declared.Refusal.TheVariants.{NoSuchThread, NoSuchPlace, UnusedField}
 use Rattle.cache.specs.Cache.{line_count, evict_of}
 use Rattle.machine.specs.Effects.{accepted}
 use Rattle.machine.specs.Holds.{with_cache}
 use Rattle.machine.specs.Image.{image_of}
 use Rattle.machine.specs.Runs.{after, answers, evict_steps, Reached}
 use Rattle.machine.specs.Steps.{refused}
-use Rattle.machine.specs.declared.Machine.{Machine}
+use Rattle.machine.specs.State.{Machine}
 use Rattle.machine.specs.declared.Stepped.{Stepped}
 use Rattle.script.specs.Script.{retired_kind, script_of}
 
@@ -30,7 +30,7 @@ retired_step machine thread line value =
 
 -- the eight steps of a line are all accepted, with 0 beside, and leave the machine and the image that the retired step gave
 pub record GivesRetired (machine : Machine) (line : ℕ) : Type 0 where
-  pub all_accepted : answers machine (evict_steps line) ≡ replicate 8 (Accepted 0)
+  pub all_accepted : answers machine (evict_steps line) ≡ replicate 8 (Ok 0)
   pub same_machine : after machine (evict_steps line) ≡ evicted_line machine line
   pub same_image : image_of (after machine (evict_steps line)) ≡ image_of (evicted_line machine line)
 

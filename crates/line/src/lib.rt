@@ -1,19 +1,19 @@
 // What one line of a listing says.
 #![tactic(auto)]
 
-ghost use Rattle.std.specs.Prelude.{◌≡◌, ◌+◌, length, take};
+ghost use Rattle.std.specs.Prelude.{◌≡◌, ◌+◌};
 ghost use Rattle.scan.specs.Find.{index_of};
 ghost use Rattle.number.specs.Decimal.{number_in};
-ghost use Rattle.names.specs.Text.{ascii, same_text};
+ghost use Rattle.names.specs.Text.{ascii};
 ghost use Rattle.names.specs.Names.{kind_named};
-ghost use Rattle.line.specs.Lines.{space, newline, before, after, after_key, step_line, undo_line};
+ghost use Rattle.line.specs.Lines.{space, newline, before, after, after_key};
 ghost use Rattle.line.specs.Lines.{step_in, undo_in, line_of, first_line};
 
 use names::{kind_named, same};
-use number::{Field, number_in};
+use number::number_in;
 use scan::find;
 
-// A line says a step, an entry of a claimed undo order by its thread and its LSN, which the text calls rank, or it can't be read.
+// A line says a step, or an entry of a claimed undo order by its thread and its LSN, which the text calls rank.
 #[derive(Clone, Copy)]
 pub enum Line {
     Step {
@@ -26,146 +26,100 @@ pub enum Line {
         thread: u64,
         rank: u64,
     },
-    Unreadable,
 }
 
 // What stands before the text's first space.
+#[tactic(auto, unfolding(crate::specs::Lines::before))]
 fn before_space(text: &[u8]) -> &[u8]
     ensures { result.now ≡ before space text.now }
 {
-    let end = find(text, b' ');
-    &text[..end]
+    &text[..find(text, b' ')]
 }
 
-// What stands after the text's first space.
-fn after_space(text: &[u8]) -> &[u8]
-    ensures { result.now ≡ after space text.now }
+// What stands after the byte's first place in the text.
+#[tactic(auto, unfolding(crate::specs::Lines::after))]
+fn after(text: &[u8], byte: u8) -> &[u8]
+    ensures { result.now ≡ after byte text.now }
 {
-    let end = find(text, b' ');
-    if end < text.len() {
-        return &text[end + 1..];
-    }
-    &text[end..]
+    let end = find(text, byte);
+    text.get(end + 1..).unwrap_or(&[])
 }
 
-// The text begins with the key.
-fn begins(text: &[u8], key: &[u8]) -> bool
-    ensures { result ≡ same_text (take (length key.now) text.now) key.now }
-{
-    let count = key.len();
-    if text.len() < count {
-        return false;
-    }
-    same(&text[..count], key)
-}
-
-// The kind that a line's first field says.
-fn kind_field(text: &[u8]) -> Field
+// The kind that a line's first field says. Apart from the next, which differs in key and reader both: one function over the reader is no
+// plainer.
+#[tactic(auto, using(names::proofs::TextLaws::same_is), unfolding(crate::specs::Lines::after_key, names::specs::Text::ascii))]
+fn kind_field(text: &[u8]) -> Option<u64>
     ensures { result ≡ after_key (ascii "step=") kind_named text.now }
 {
-    if begins(text, b"step=") {
-        return kind_named(&text[5..]);
-    }
-    Field::Nothing
+    kind_named(text.strip_prefix(b"step=")?)
 }
 
 // The number that a field with this key says.
-fn number_field(text: &[u8], key: &[u8]) -> Field
+#[tactic(auto, using(names::proofs::TextLaws::same_is), unfolding(crate::specs::Lines::after_key))]
+fn number_field(text: &[u8], key: &[u8]) -> Option<u64>
     ensures { result ≡ after_key key.now number_in text.now }
 {
-    if begins(text, key) {
-        let count = key.len();
-        return number_in(&text[count..]);
-    }
-    Field::Nothing
+    number_in(text.strip_prefix(key)?)
 }
 
-// The step of four fields.
-#[tactic(auto, unfolding(crate::specs::Lines::step_line))]
-fn step_of(kind: Field, thread: Field, place: Field, value: Field) -> Line
-    ensures { result ≡ step_line kind thread place value }
+// The step that a line says.
+#[tactic(auto, unfolding(crate::specs::Lines::step_in, crate::specs::Lines::step_line, names::specs::Text::ascii))]
+fn read_step(line: &[u8]) -> Option<Line>
+    ensures { result ≡ step_in line.now }
 {
-    let Field::Number(kind) = kind else {
-        return Line::Unreadable;
-    };
-    let Field::Number(thread) = thread else {
-        return Line::Unreadable;
-    };
-    let Field::Number(place) = place else {
-        return Line::Unreadable;
-    };
-    let Field::Number(value) = value else {
-        return Line::Unreadable;
-    };
-    Line::Step {
+    let after_step = after(line, b' ');
+    let after_thread = after(after_step, b' ');
+    let kind = kind_field(before_space(line))?;
+    let thread = number_field(before_space(after_step), b"thread=")?;
+    let place = number_field(before_space(after_thread), b"place=")?;
+    let value = number_field(after(after_thread, b' '), b"value=")?;
+    Some(Line::Step {
         kind,
         thread,
         place,
         value,
-    }
-}
-
-// The entry of a claimed undo order, of two fields.
-#[tactic(auto, unfolding(crate::specs::Lines::undo_line))]
-fn undo_of(thread: Field, rank: Field) -> Line
-    ensures { result ≡ undo_line thread rank }
-{
-    let Field::Number(thread) = thread else {
-        return Line::Unreadable;
-    };
-    let Field::Number(rank) = rank else {
-        return Line::Unreadable;
-    };
-    Line::Undo { thread, rank }
-}
-
-// The step that a line says.
-fn read_step(line: &[u8]) -> Line
-    ensures { result ≡ step_in line.now }
-{
-    let after_step = after_space(line);
-    let after_thread = after_space(after_step);
-    let kind = kind_field(before_space(line));
-    let thread = number_field(before_space(after_step), b"thread=");
-    let place = number_field(before_space(after_thread), b"place=");
-    let value = number_field(after_space(after_thread), b"value=");
-    step_of(kind, thread, place, value)
+    })
 }
 
 // The entry of a claimed undo order that a line says after its first word.
-fn read_undo(line: &[u8]) -> Line
+#[tactic(auto, unfolding(crate::specs::Lines::undo_in, crate::specs::Lines::undo_line, names::specs::Text::ascii))]
+fn read_undo(line: &[u8]) -> Option<Line>
     ensures { result ≡ undo_in line.now }
 {
-    let after_undo = after_space(line);
-    let thread = number_field(before_space(after_undo), b"thread=");
-    let rank = number_field(after_space(after_undo), b"rank=");
-    undo_of(thread, rank)
+    let after_undo = after(line, b' ');
+    let thread = number_field(before_space(after_undo), b"thread=")?;
+    let rank = number_field(after(after_undo, b' '), b"rank=")?;
+    Some(Line::Undo { thread, rank })
 }
 
-// What a line says, given without its newline.
-pub fn read_line(line: &[u8]) -> Line
+// What a line says, given without its newline; nothing where it can't be read.
+#[tactic(auto, unfolding(crate::specs::Lines::line_of, names::specs::Text::ascii))]
+pub fn read_line(line: &[u8]) -> Option<Line>
     ensures { result ≡ line_of line.now }
 {
     if same(before_space(line), b"undo") {
-        return read_undo(line);
+        read_undo(line)
+    } else {
+        read_step(line)
     }
-    read_step(line)
 }
 
-// What the first line of the input says.
-pub fn first_line(input: &[u8]) -> Line
+// What the first line of the input says; nothing where it can't be read, as where no newline ends it.
+#[tactic(auto, unfolding(crate::specs::Lines::first_line, crate::specs::Lines::before))]
+pub fn first_line(input: &[u8]) -> Option<Line>
     ensures { result ≡ first_line input.now }
 {
     let end = find(input, b'\n');
     if end < input.len() {
-        return read_line(&input[..end]);
+        read_line(&input[..end])
+    } else {
+        None
     }
-    Line::Unreadable
 }
 
-// How many bytes the first line of the input has with its newline, if it has one.
-pub fn line_length(input: &[u8]) -> usize
-    ensures { result ≡ index_of newline input.now + 1 }
+// What stands after the first line of the input and its newline: nothing where no newline ends it.
+pub fn after_line(input: &[u8]) -> &[u8]
+    ensures { result.now ≡ after newline input.now }
 {
-    find(input, b'\n') + 1
+    after(input, b'\n')
 }

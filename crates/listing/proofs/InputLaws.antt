@@ -1,27 +1,25 @@
 -- Laws of the lines of an input: the first line and those after it, and how many steps an input has room for.
-use Prim.Native.Nat.{ℕ, suc, ◌+◌, ◌-◌, ◌*◌, ◌≤◌, ◌<◌}
-use mathlib.Core.Path.{◌≡◌, refl, ◌∙◌, ap, subst⁻¹}
-use mathlib.Core.Bool.{Bool, true, false, cond}
+use Prim.Native.Nat.{ℕ, suc, ◌+◌, ◌*◌, ◌≤◌, ◌<◌}
+use mathlib.Core.Path.{◌≡◌, refl, sym, ◌∙◌, ap, subst⁻¹}
+use mathlib.Core.Bool.{Bool, true, false, cond, true≢false}
 use mathlib.Core.Logic.{by_cases}
 use mathlib.Core.List.{List, [], ◌∷◌, ◌++◌, append-nil, append_assoc}
 use native.Mathlib.Decide.{dec_lt}
 use native.Mathlib.Nat.{suc-add}
 use native.Mathlib.Omega.{arith}
 use lib.ListN.{length, take, drop, drop_of_length-le, length-append, length-take, length-drop}
-use lib.Seq.{drop-drop}
 use lib.Dec.{eqb}
+use borrow.Author.Tests.{ne_eqb}
+use Rattle.std.specs.Prelude.{Option, Some, None}
 use Rattle.scan.specs.Find.{index_of, index_after}
 use Rattle.number.specs.Decimal.{number_in}
-use Rattle.number.specs.declared.Field.{Field}
-use Rattle.number.specs.declared.Field.TheVariants.{Number, Nothing}
 use Rattle.names.specs.Text.{ascii, same_text}
 use Rattle.names.specs.Names.{names, kind_from, kind_named}
 use Rattle.names.proofs.TextLaws.{same_eq}
 use Rattle.line.specs.Lines.{space, newline, before, after, after_key, step_line, undo_line}
 use Rattle.line.specs.Lines.{step_in, undo_in, line_of, first_line, unended, lines_from, lines_of}
 use Rattle.line.specs.declared.Line.{Line}
-use Rattle.line.specs.declared.Line.TheVariants.{Step, Undo, Unreadable}
-use Rattle.line.proofs.TextLaws.{part_rest}
+use Rattle.line.specs.declared.Line.TheVariants.{Step, Undo}
 use Rattle.line.proofs.LineLaws.{first_ended, first-unended}
 
 -- a line that is ended, of which these bytes are passed
@@ -58,7 +56,7 @@ lines-unended line (byte ∷ input) past = by_byte (eqb byte newline) past (line
     by_byte true past later = absurd (omega arith)
     by_byte false past later = later (omega arith) ∙ rw (append_assoc line (byte ∷ []) input)
 
-one-unended : (input : List ℕ) → 0 < length input → unended input ≡ Unreadable ∷ lines_from [] []
+one-unended : (input : List ℕ) → 0 < length input → unended input ≡ None ∷ lines_from [] []
 unfolding lines_from
 one-unended [] some = absurd (omega arith)
 one-unended (byte ∷ input) some = refl
@@ -81,50 +79,50 @@ never : {A : Type 0} → ◌≡◌ {A = ℕ} 0 1 → A
 never wrong = absurd (omega arith)
 
 -- each field of a step was read
-pub fields_read : (a b c d : Field) {kind thread place value : ℕ} → step_line a b c d ≡ Step kind thread place value →
-    (a ≡ Number kind) × (b ≡ Number thread) × (c ≡ Number place) × (d ≡ Number value)
+pub fields_read : (a b c d : Option ℕ) {kind thread place value : ℕ} → step_line a b c d ≡ Some (Step kind thread place value) →
+    (a ≡ Some kind) × (b ≡ Some thread) × (c ≡ Some place) × (d ≡ Some value)
 unfolding step_line
-fields_read Nothing b c d step = never (cc)
-fields_read (Number k) Nothing c d step = never (cc)
-fields_read (Number k) (Number t) Nothing d step = never (cc)
-fields_read (Number k) (Number t) (Number p) Nothing step = never (cc)
-fields_read (Number k) (Number t) (Number p) (Number v) step = (cc, cc, cc, cc)
+fields_read None b c d step = never (cc)
+fields_read (Some k) None c d step = never (cc)
+fields_read (Some k) (Some t) None d step = never (cc)
+fields_read (Some k) (Some t) (Some p) None step = never (cc)
+fields_read (Some k) (Some t) (Some p) (Some v) step = (cc, cc, cc, cc)
 
 -- an entry of a claimed undo order is no step
-undo_no_step : (a b : Field) {kind thread place value : ℕ} → undo_line a b ≡ Step kind thread place value → ⊥
+undo_no_step : (a b : Option ℕ) {kind thread place value : ℕ} → undo_line a b ≡ Some (Step kind thread place value) → ⊥
 unfolding undo_line
-undo_no_step Nothing b step = never (cc)
-undo_no_step (Number t) Nothing step = never (cc)
-undo_no_step (Number t) (Number r) step = never (cc)
+undo_no_step None b step = never (cc)
+undo_no_step (Some t) None step = never (cc)
+undo_no_step (Some t) (Some r) step = never (cc)
 
 -- a line that says a step does not begin with `undo`
 step_in_lem : (text : List ℕ) {kind thread place value : ℕ}
-    → line_of text ≡ Step kind thread place value → step_in text ≡ Step kind thread place value
+    → line_of text ≡ Some (Step kind thread place value) → step_in text ≡ Some (Step kind thread place value)
 unfolding line_of undo_in
 step_in_lem text {kind} {thread} {place} {value} step = by_word (same_text (before space text) (ascii "undo")) step
   where
-    by_word : (undo : Bool) → cond undo (undo_in text) (step_in text) ≡ Step kind thread place value
-        → step_in text ≡ Step kind thread place value
+    by_word : (undo : Bool) → cond undo (undo_in text) (step_in text) ≡ Some (Step kind thread place value)
+        → step_in text ≡ Some (Step kind thread place value)
     by_word true step = absurd (undo_no_step _ _ step)
     by_word false step = step
 
 -- a field that says something has its key, and something after it that says it
-pub record Keyed (key : List ℕ) (says : List ℕ → Field) (text : List ℕ) (number : ℕ) : Type 0 where
+pub record Keyed (key : List ℕ) (says : List ℕ → Option ℕ) (text : List ℕ) (number : ℕ) : Type 0 where
   pub begins : take (length key) text ≡ key
-  pub said : says (drop (length key) text) ≡ Number number
+  pub said : says (drop (length key) text) ≡ Some number
 
-pub keyed : (key : List ℕ) (says : List ℕ → Field) (text : List ℕ) {number : ℕ} →
-    after_key key says text ≡ Number number → Keyed key says text number
+pub keyed : (key : List ℕ) (says : List ℕ → Option ℕ) (text : List ℕ) {number : ℕ} →
+    after_key key says text ≡ Some number → Keyed key says text number
 unfolding after_key
 keyed key says text {number} read = by_key (same_text (take (length key) text) key) refl read
   where
     by_key : (same : Bool) → same_text (take (length key) text) key ≡ same →
-        cond same (says (drop (length key) text)) Nothing ≡ Number number → Keyed key says text number
+        cond same (says (drop (length key) text)) None ≡ Some number → Keyed key says text number
     by_key true same read = record { begins = same_eq (take (length key) text) key same; said = read }
     by_key false same read = never (cc)
 
 -- a number has a digit
-number-some : (text : List ℕ) {number : ℕ} → number_in text ≡ Number number → 1 ≤ length text
+number-some : (text : List ℕ) {number : ℕ} → number_in text ≡ Some number → 1 ≤ length text
 unfolding number_in
 number-some [] read = never (cc)
 number-some (byte ∷ text) read = omega arith
@@ -135,25 +133,25 @@ names-all Q [] = Unit {0}
 names-all Q (name ∷ names) = Q name × names-all Q names
 
 kind_among : (Q : List ℕ → Type 0) (number : ℕ) (names : List (List ℕ)) (text : List ℕ) {kind : ℕ} → names-all Q names →
-    kind_from number names text ≡ Number kind → Q text
+    kind_from number names text ≡ Some kind → Q text
 unfolding kind_from names-all
 kind_among Q number [] text all read = never (cc)
 kind_among Q number (name ∷ names) text {kind} all read =
     by_name (same_text text name) refl read (λ later. kind_among Q (suc number) names text all.1 later)
   where
     by_name : (same : Bool) → same_text text name ≡ same →
-        cond same (Number number) (kind_from (suc number) names text) ≡ Number kind →
-        (kind_from (suc number) names text ≡ Number kind → Q text) → Q text
+        cond same (Some number) (kind_from (suc number) names text) ≡ Some kind →
+        (kind_from (suc number) names text ≡ Some kind → Q text) → Q text
     by_name true same read later = subst⁻¹ Q (same_eq text name same) all.0
     by_name false same read later = later read
 
 -- the shortest name is LOG
-kind_some : (text : List ℕ) {kind : ℕ} → kind_named text ≡ Number kind → 3 ≤ length text
+kind_some : (text : List ℕ) {kind : ℕ} → kind_named text ≡ Some kind → 3 ≤ length text
 unfolding kind_named names names-all ascii
 kind_some text read = kind_among (λ name. 3 ≤ length name) 1 names text (omega arith) read
 
 -- a field is as long as its key and what comes after it
-keyed_long : (key : List ℕ) (says : List ℕ → Field) (text : List ℕ) {number : ℕ} (size : ℕ) →
+keyed_long : (key : List ℕ) (says : List ℕ → Option ℕ) (text : List ℕ) {number : ℕ} (size : ℕ) →
     Keyed key says text number → (size ≤ length (drop (length key) text)) → length key + size ≤ length text
 keyed_long key says text size field some =
     omega (arith, ap length field.begins, length-take (length key) text, length-drop (length key) text)
@@ -165,7 +163,7 @@ unfolding before after
 split_long byte text some = omega (arith, length-take (index_of byte text) text, length-drop (index_of byte text + 1) text)
 
 -- "step=LOG thread=0 place=0 value=0" has 33 bytes
-pub step_long : (text : List ℕ) {kind thread place value : ℕ} → line_of text ≡ Step kind thread place value → 33 ≤ length text
+pub step_long : (text : List ℕ) {kind thread place value : ℕ} → line_of text ≡ Some (Step kind thread place value) → 33 ≤ length text
 unfolding step_in ascii
 step_long text step =
     let rest = after space text in
@@ -193,11 +191,11 @@ step_long text step =
     omega arith
 
 -- the steps before the first line that says none
-unfoldable pub leading : List Line → ℕ
+unfoldable pub leading : List (Option Line) → ℕ
 leading [] = 0
-leading (Step kind thread place value ∷ lines) = suc (leading lines)
-leading (Undo thread rank ∷ lines) = 0
-leading (Unreadable ∷ lines) = 0
+leading (Some (Step kind thread place value) ∷ lines) = suc (leading lines)
+leading (Some (Undo thread rank) ∷ lines) = 0
+leading (None ∷ lines) = 0
 
 -- a step takes 34 bytes at least
 steps-from : (line input : List ℕ) → 34 * leading (lines_from line input) ≤ length line + length input
@@ -207,12 +205,12 @@ steps-from (byte ∷ line) [] = omega arith
 steps-from line (byte ∷ input) =
     by_byte (eqb byte newline) (line_of line) refl (steps-from [] input) (steps-from (line ++ (byte ∷ [])) input)
   where
-    by_byte : (ends : Bool) (says : Line) → line_of line ≡ says → 34 * leading (lines_from [] input) ≤ 0 + length input
+    by_byte : (ends : Bool) (says : Option Line) → line_of line ≡ says → 34 * leading (lines_from [] input) ≤ 0 + length input
         → 34 * leading (lines_from (line ++ (byte ∷ [])) input) ≤ length (line ++ (byte ∷ [])) + length input
         → 34 * leading (cond ends (says ∷ lines_from [] input) (lines_from (line ++ (byte ∷ [])) input)) ≤ length line + suc (length input)
-    by_byte true (Step kind thread place value) is later on = omega (arith, step_long line is)
-    by_byte true (Undo thread rank) is later on = omega arith
-    by_byte true Unreadable is later on = omega arith
+    by_byte true (Some (Step kind thread place value)) is later on = omega (arith, step_long line is)
+    by_byte true (Some (Undo thread rank)) is later on = omega arith
+    by_byte true None is later on = omega arith
     by_byte false says is later on = omega (arith, length-append line (byte ∷ []))
 
 pub steps-most : (input : List ℕ) → 34 * leading (lines_of input) ≤ length input
@@ -221,39 +219,27 @@ steps-most input = omega (arith, steps-from [] input)
 
 -- ---- the rest of an input, line by line
 
--- the rest of an input, as code lends it
-abbrev pub lent : ℕ → List ℕ → List ℕ
-lent from input = take (length input - from) (drop from input)
+-- something is left of the input, or nothing, by the test that code asks
+pub some_left : (rest : List ℕ) {empty : Bool} → empty ≡ eqb (length rest) 0 → empty ≡ false → 0 < length rest
+some_left [] is not_empty = absurd (true≢false (sym is ∙ not_empty))
+some_left (byte ∷ rest) is not_empty = omega arith
+
+pub nothing_left : (rest : List ℕ) {empty : Bool} → empty ≡ eqb (length rest) 0 → empty ≡ true → length rest ≤ 0
+nothing_left [] is empty = omega arith
+nothing_left (byte ∷ rest) is empty = absurd (true≢false (sym empty ∙ is ∙ ne_eqb (length (byte ∷ rest)) 0 (λ zero. omega arith)))
 
 -- at the end of the input no line is left
-pub lines_end : (input : List ℕ) {from : ℕ} → length input ≤ from → lines_of (drop from input) ≡ []
+pub lines_end : (rest : List ℕ) → length rest ≤ 0 → lines_of rest ≡ []
 unfolding lines_of lines_from
-lines_end input none = rw (drop_of_length-le input none)
+lines_end [] none = refl
+lines_end (byte ∷ rest) none = absurd (omega arith)
 
--- a line that says a step, or an entry of a claimed undo order, could be read
-pub step-read : {line : Line} {kind thread place value : ℕ} → line ≡ Step kind thread place value → line ≡ Unreadable → ⊥
-step-read says not = never (cc)
-
-pub undo_read : {line : Line} {thread rank : ℕ} → line ≡ Undo thread rank → line ≡ Unreadable → ⊥
-undo_read says not = never (cc)
+-- what stands after the first line of some input is shorter
+pub after-shorter : (rest : List ℕ) → 0 < length rest → length (after newline rest) < length rest
+unfolding after
+after-shorter rest some = omega (arith, length-drop (index_of newline rest + 1) rest)
 
 -- the first line of the rest is read
-module _ (input : List ℕ) (from : ℕ) (more : from < length input) {line : Line} (read : line ≡ first_line (lent from input)) where
-  pub lines_at : lines_of (drop from input) ≡ line ∷ lines_of (after newline (drop from input))
-  lines_at = lines_first (drop from input) (omega (arith, length-drop from input)) ∙ rw (read, part_rest from input)
-
-  -- one that can be read ends within the input, and the lines after it begin after its bytes
-  module _ (is_read : line ≡ Unreadable → ⊥) {length' : ℕ} (long : length' ≡ index_of newline (lent from input) + 1) where
-    ended : index_of newline (drop from input) < length (drop from input)
-    ended =
-        by_cases (dec_lt (index_of newline (drop from input)) (length (drop from input))) (λ below. below)
-        (λ past.
-        absurd (is_read (read ∙ ap first_line (part_rest from input) ∙ first-unended (drop from input) (omega arith))))
-
-    pub line-within : from + length' ≤ length input
-    line-within = omega (arith, rw (part_rest from input) at long, ended, length-drop from input)
-
-    pub lines-on : lines_of (drop from input) ≡ line ∷ lines_of (drop (from + length') input)
-    unfolding after
-    lines-on =
-        lines_at ∙ rw (long, part_rest from input) (rw (drop-drop (index_of newline (drop from input) + 1) from input))
+pub lines_at : (rest : List ℕ) → 0 < length rest → {line : Option Line} → line ≡ first_line rest →
+    lines_of rest ≡ line ∷ lines_of (after newline rest)
+lines_at rest some read = lines_first rest some ∙ rw read

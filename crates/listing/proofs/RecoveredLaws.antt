@@ -3,17 +3,17 @@ use Prim.Native.Nat.{ℕ, zero, suc, ◌-◌, ◌≤◌}
 use mathlib.Core.Path.{◌≡◌, refl, ◌∙◌, ap}
 use mathlib.Core.Bool.{Bool, true, false, cond}
 use mathlib.Core.List.{List}
-use mathlib.Core.Option.{Option, none, some}
+use Rattle.std.specs.Prelude.{Option, None, Some}
 use native.Mathlib.Omega.{arith}
 use lib.ListN.{length, set, replicate, length-set, length-take}
 use lib.Dec.{eqb}
 use Rattle.sizes.specs.Sizes.{thread_count}
 use Rattle.answer.specs.Refusals.{Outcome, unless}
-use Rattle.answer.specs.declared.Answer.{Answer}
+use Rattle.answer.specs.Answer.{Answer}
 use Rattle.answer.proofs.RefusalLaws.{unless-cases}
 use Rattle.cache.specs.Cache.{cell_count}
 use Rattle.machine.specs.Image.{image_of, cut_of}
-use Rattle.machine.specs.declared.Machine.{Machine}
+use Rattle.machine.specs.State.{Machine}
 use Rattle.image.specs.Stored.{StoredLog, stored_logs, stored_log, entry_kind, entry_place, entry_value}
 use Rattle.image.specs.Tests.{image_tests}
 use Rattle.undoing.specs.Undo.{Undo, left_of, lowest_from, take_last, take_from, take_next, take_many, undo_start, undone}
@@ -41,8 +41,8 @@ recovered_are machine cut recovered =
 -- an entry that is taken keeps the number of cells
 taken_long : (logs : List StoredLog) (undo : Undo) (next : Option ℕ) → length (take_from logs undo next).cells ≡ length undo.cells
 unfolding take_last
-taken_long logs undo none = refl
-taken_long logs undo (some thread) =
+taken_long logs undo None = refl
+taken_long logs undo (Some thread) =
     let log = stored_log logs thread in
     let last = left_of undo.left thread - 1 in
     kept (eqb (entry_kind log last) 1) undo.cells (entry_place log last) (entry_value log last)
@@ -63,7 +63,7 @@ pub recovered-most : (machine : Machine) → length (recovered_cells machine) �
 unfolding recovered_cells recover_of recover_tests image_tests undone undo_start
 recovered-most machine =
     unless-cases (λ (outcome : Outcome). length outcome.buffer ≤ 128) _
-    (recover_tests (image_of machine) (replicate cell_count 0)) _ (refl, (refl, (refl, (refl, (refl, tt)))))
-    (λ answer refused. omega arith)
+    (recover_tests (image_of machine) (replicate cell_count 0)) _
+    (λ refusal. omega arith)
     (λ none-holds.
     omega (arith, undo_long 256 (stored_logs (image_of machine)) (undo_start (image_of machine)), length-take heads_at (image_of machine)))

@@ -4,9 +4,9 @@ use mathlib.Core.Path.{◌≡◌, refl, sym, ◌∙◌}
 use mathlib.Core.Bool.{Bool, true, false, cond}
 use mathlib.Core.List.{List, [], ◌∷◌, append-nil}
 use native.Mathlib.Omega.{arith}
-use lib.ListN.{length, drop, length-append}
+use lib.ListN.{length, length-append}
 use lib.Dec.{eqb}
-use Rattle.machine.specs.declared.Machine.{Machine}
+use Rattle.machine.specs.State.{Machine}
 use Rattle.names.specs.Text.{ascii}
 use Rattle.line.specs.Lines.{lines_of}
 use Rattle.buffer.specs.Buffers.{written}
@@ -66,12 +66,12 @@ transcript_count input buffer = count_fits input (printed start_machine 1 (lines
 
 -- ---- the end of the input
 
-module _ {text input old output : List ℕ} {machine : Machine} {number from place : ℕ}
-    (so_far : Printing printed text input old output machine number from place) (none : length input ≤ from) where
+module _ {text input old output : List ℕ} {machine : Machine} {number : ℕ} {rest : List ℕ}
+    {place : ℕ} (so_far : Printing printed text input old output machine number rest place) (none : length rest ≤ 0) where
   abbrev cells : List ℕ
   cells = cells_text 0 (recovered_cells machine)
 
-  all-printed : printed machine number (lines_of (drop from input)) ≡ cells
+  all-printed : printed machine number (lines_of rest) ≡ cells
   unfolding printed
   all-printed = none_left so_far none
 

@@ -1,16 +1,16 @@
 -- The whole transcript: the bytes that the program prints for the bytes of its input.
-use Rattle.std.specs.Prelude.{ℕ, suc, cond, List, [], ◌∷◌, ◌++◌, length, drop, replicate, leb, ltb}
-use Rattle.answer.specs.declared.Answer.TheVariants.{Unreadable as UnreadableAnswer}
+use Rattle.std.specs.Prelude.{Err, ℕ, suc, cond, List, [], ◌∷◌, ◌++◌, length, drop, replicate, leb, ltb, Option, Some, None}
+use Rattle.answer.specs.declared.Refusal.TheVariants.{Unreadable}
 use Rattle.cache.specs.Cache.{cell_count}
 use Rattle.machine.specs.Holds.{start_of}
 use Rattle.machine.specs.Image.{image_of}
-use Rattle.machine.specs.declared.Machine.{Machine}
+use Rattle.machine.specs.State.{Machine}
 use Rattle.script.specs.Script.{script_of}
 use Rattle.recovery.specs.Recover.{recover_of}
 use Rattle.line.specs.Lines.{lines_of}
 use Rattle.print.specs.Printed.{result_text, cells_text}
 use Rattle.line.specs.declared.Line.{Line}
-use Rattle.line.specs.declared.Line.TheVariants.{Step, Undo, Unreadable}
+use Rattle.line.specs.declared.Line.TheVariants.{Step, Undo}
 
 -- "Standard input, at most 65,536 bytes"
 abbrev pub most_input : ℕ
@@ -27,17 +27,17 @@ recovered_cells machine = (recover_of (image_of machine) (replicate cell_count 0
 -- what is printed for these lines, of which the first has this number, by this machine.
 -- "A line that can't be read ends the run: it prints that line's number with answer=20 value=0, and no cells." An entry of a claimed undo
 -- order is no step: here its line can't be read either.
-unfoldable pub printed : Machine → ℕ → List Line → List ℕ
+unfoldable pub printed : Machine → ℕ → List (Option Line) → List ℕ
 printed machine number [] = cells_text 0 (recovered_cells machine)
-printed machine number (Step kind thread place value ∷ lines) =
+printed machine number (Some (Step kind thread place value) ∷ lines) =
     let stepped = script_of machine kind thread place value in
     result_text number stepped.answer ++ printed stepped.machine (suc number) lines
-printed machine number (Undo thread rank ∷ lines) = result_text number UnreadableAnswer
-printed machine number (Unreadable ∷ lines) = result_text number UnreadableAnswer
+printed machine number (Some (Undo thread rank) ∷ lines) = result_text number (Err Unreadable)
+printed machine number (None ∷ lines) = result_text number (Err Unreadable)
 
 -- "Input too long prints only that, as line 1."
 unfoldable pub transcript_of : List ℕ → List ℕ
-transcript_of input = cond (ltb most_input (length input)) (result_text 1 UnreadableAnswer) (printed start_machine 1 (lines_of input))
+transcript_of input = cond (ltb most_input (length input)) (result_text 1 (Err Unreadable)) (printed start_machine 1 (lines_of input))
 
 -- bytes enough for any transcript
 abbrev pub transcript_room : ℕ

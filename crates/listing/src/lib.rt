@@ -2,54 +2,48 @@
 #![tactic(auto)]
 
 ghost use Rattle.std.specs.Prelude.{◌≡◌, ◌+◌, ◌≤◌, length};
-ghost use Rattle.buffer.specs.Buffers.{written};
+ghost use Rattle.buffer.specs.Pages.{Put};
 ghost use Rattle.print.specs.Printed.{cells_text};
-ghost use Rattle.machine.specs.Runs.{Reached};
 ghost use Rattle.listing.specs.Transcript.{start_machine, recovered_cells, transcript_in};
 
-use answer::Answer;
+use answer::Refusal;
+use buffer::Page;
 use line::Line;
 use machine::Machine;
 use reader::IMAGE_WORDS;
 use sizes::CELLS;
-use step::step;
 
 // The bytes that an input has at most: a longer one is unreadable.
 pub const MOST_INPUT: usize = 65536;
+
+// One byte more, so that a longer input shows.
+pub const INPUT_ROOM: usize = MOST_INPUT + 1;
 
 // The bytes that a lent buffer must have, so that every transcript fits.
 pub const TRANSCRIPT_ROOM: usize = 163840;
 
 // Writes each of the cells that isn't 0, where there is room for them.
-fn write_cells(output: &mut [u8], place: usize, cells: &[u64]) -> usize
-    requires { place + length (cells_text 0 cells.now) ≤ length output.old }
-    ensures value { result ≡ place + length (cells_text 0 cells.now) }
-    ensures output_after { output.new ≡ written output.old place (cells_text 0 cells.now) }
+fn write_cells(page: &mut Page, cells: &[u64])
+    requires { page.old.place + length (cells_text 0 cells.now) ≤ length page.old.buffer.now }
+    ensures { Put page.old page.new (cells_text 0 cells.now) }
 {
-    let mut end = place;
-    let mut i = 0;
-    while i < cells.len() {
-        let content = cells[i];
+    for (cell, &content) in cells.iter().enumerate() {
         if content != 0 {
-            end = print::write_cell(output, end, i as u64, content);
+            print::write_cell(page, cell as u64, content);
         }
-        i += 1;
     }
-    end
 }
 
 // Cuts the machine, recovers its image and writes the cells.
-fn write_recovered(output: &mut [u8], place: usize, machine: Machine) -> usize
-    requires reached { Reached machine }
-    requires machine_in_bounds { place + length (cells_text 0 (recovered_cells machine)) ≤ length output.old }
-    ensures value { result ≡ place + length (cells_text 0 (recovered_cells machine)) }
-    ensures output_after { output.new ≡ written output.old place (cells_text 0 (recovered_cells machine)) }
+fn write_recovered(page: &mut Page, machine: Machine)
+    requires { page.old.place + length (cells_text 0 (recovered_cells machine)) ≤ length page.old.buffer.now }
+    ensures { Put page.old page.new (cells_text 0 (recovered_cells machine)) }
 {
     let mut image = [0u64; IMAGE_WORDS];
     let mut cells = [0u64; CELLS];
-    machine.cut(&mut image);
-    recovery::recover(&image, &mut cells);
-    write_cells(output, place, &cells)
+    let _ = machine.cut(&mut image);
+    let _ = recovery::recover(&image, &mut cells);
+    write_cells(page, &cells);
 }
 
 // The machine with all cells 0.
@@ -61,43 +55,41 @@ fn start_machine() -> Machine
     started.machine
 }
 
-// Writes the transcript of the input, and answers how many bytes it takes.
+// Writes the transcript of the input, and answers how many bytes it takes: 0 where the buffer is too short, as the call from C promises.
 pub fn transcript(input: &[u8], output: &mut [u8]) -> usize
     ensures { record { count = result; buffer = output.new } ≡ transcript_in input.now output.old }
 {
     if output.len() < TRANSCRIPT_ROOM {
         return 0;
     }
+    let mut page = Page::new(output);
     if MOST_INPUT < input.len() {
-        return print::write_result(output, 0, 1, Answer::Unreadable);
+        print::write_result(&mut page, 1, Err(Refusal::Unreadable));
+        return page.place;
     }
     let mut machine = start_machine();
     let mut number: u64 = 1;
-    let mut from = 0;
-    let mut place = 0;
-    while from < input.len() {
-        let rest = &input[from..];
-        let Line::Step {
-            kind,
-            thread,
-            place: at,
-            value,
-        } = line::first_line(rest)
+    let mut rest = input;
+    // By a loop: after a walk by a closure that captures machine and page the proof knows neither (tried), and one that is lent them is no
+    // plainer: a struct for them, and a flag for the early return.
+    while !rest.is_empty() {
+        let Some(
+            Line::Step {
+                kind,
+                thread,
+                place: at,
+                value,
+            },
+        ) = line::first_line(rest)
         else {
-            return print::write_result(output, place, number, Answer::Unreadable);
+            print::write_result(&mut page, number, Err(Refusal::Unreadable));
+            return page.place;
         };
-        let read = script::read_fields(kind, thread, at, value);
-        let mut answer = read.answer;
-        let mut taken: u64 = 0;
-        while taken < read.count {
-            let stepped = step(machine, read.kind, read.thread, read.first + taken, value);
-            answer = stepped.answer;
-            machine = stepped.machine;
-            taken += 1;
-        }
-        place = print::write_result(output, place, number, answer);
+        let answer = script::take(&mut machine, kind, thread, at, value);
+        print::write_result(&mut page, number, answer);
         number += 1;
-        from += line::line_length(rest);
+        rest = line::after_line(rest);
     }
-    write_recovered(output, place, machine)
+    write_recovered(&mut page, machine);
+    page.place
 }

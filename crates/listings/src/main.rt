@@ -3,8 +3,8 @@
 // elsewhere (data/README.md), and never from what is printed here.
 #![tactic(auto)]
 
-ghost use Rattle.std.specs.Prelude.{◌≤◌, ◌<◌, length};
-
+use answer::Refusal;
+use buffer::Page;
 use input::read_full;
 use line::Line;
 use listing::{MOST_INPUT, TRANSCRIPT_ROOM};
@@ -14,147 +14,109 @@ use std::io::Write;
 use std::rt::Files;
 use std::{fs, io, str};
 
-// What became of a listing.
-#[derive(Clone, Copy)]
+// What became of a listing. Its three cases have names: an `Option` of whether the two agree would not show which one is missing.
+#[derive(Clone, Copy, PartialEq, Eq)]
 enum Verdict {
     Agrees,
     Differs,
     Missing,
 }
 
+// The answer to a line that can't be read. Answers are numbers here, each its column in the table.
+const UNREADABLE: usize = Refusal::Unreadable as usize;
+
+// The row of lines that can't be read, after those of the names 1 to 14: a number, and no kind, as EVICT has 11 and is none.
+const NO_NAME: usize = 14;
+
+// What the rows of the table count.
+const ROWS: [&[u8]; 15] = [
+    b"LOAD      ",
+    b"LOG       ",
+    b"STORE     ",
+    b"ACQUIRE   ",
+    b"LOGREL    ",
+    b"RELEASE   ",
+    b"FLUSH     ",
+    b"FLUSHLOG  ",
+    b"FENCE     ",
+    b"PRUNE     ",
+    b"EVICT     ",
+    b"EVICTLOG  ",
+    b"EVICTCELL ",
+    b"EVICTWORDS",
+    b"unreadable",
+];
+
 // How often each name of a step met each answer: 15 rows, names 1 to 14 and lines that can't be read, of 21 columns, answers 0 to 20.
-type Table = [u64; 315];
+type Table = [[u64; 21]; 15];
 
 // The first bytes of the buffer, this many, or all where it has fewer.
 fn first(buffer: &[u8], count: usize) -> &[u8] {
-    if buffer.len() < count {
-        return buffer;
-    }
-    &buffer[..count]
+    buffer.get(..count).unwrap_or(buffer)
 }
 
 // Opens the file of this name and ending, if there is one.
 fn open<R: Files>(rt: &R, name: &[u8], ending: &[u8]) -> Option<R::File> {
-    let mut path = [0u8; 80];
-    let end = buffer::write(&mut path, 0, name);
-    let end = buffer::write(&mut path, end, ending);
-    let path = str::from_utf8(first(&path, end)).ok()?;
+    let mut bytes = [0u8; 80];
+    let mut path = Page::new(&mut bytes);
+    path.write(name);
+    path.write(ending);
+    let end = path.place;
+    let path = str::from_utf8(first(&bytes, end)).ok()?;
     fs::open(rt, path).ok()
 }
 
-// The two texts are the same.
-fn same(one: &[u8], other: &[u8]) -> bool {
-    if one.len() != other.len() {
-        return false;
-    }
-    let mut i = 0;
-    while i < one.len() {
-        if one[i] != other[i] {
-            return false;
-        }
-        i += 1;
-    }
-    true
+// The digit that a byte is.
+fn digit(byte: u8) -> Option<usize> {
+    (byte as char).to_digit(10).map(|digit| digit as usize)
 }
 
-// The digit at a place of the text, or 10 where none is.
-fn digit_at(text: &[u8], place: usize) -> usize
-    ensures { result ≤ 10 }
-{
-    if text.len() <= place {
-        return 10;
-    }
-    let byte = text[place];
-    if byte < b'0' {
-        return 10;
-    }
-    if b'9' < byte {
-        return 10;
-    }
-    (byte - b'0') as usize
-}
-
-// The answer in a transcript's first line: it stands after a space and `answer=`, and has one digit or two.
+// The answer in a transcript's first line: it stands after a space and `answer=`, and has one digit or two. Where no digit stands there,
+// which no transcript has, the first one counts as 10.
 fn answer_in(transcript: &[u8]) -> usize {
-    let space = find(transcript, b' ');
-    if transcript.len() - space < 10 {
-        return 20;
+    let after = transcript.get(find(transcript, b' ')..).unwrap_or(&[]);
+    if after.len() < 10 {
+        return UNREADABLE;
     }
-    let first = digit_at(transcript, space + 8);
-    let second = digit_at(transcript, space + 9);
-    if second == 10 {
-        return first;
-    }
-    first * 10 + second
-}
-
-// The table's row for a line: the kind less 1, and 14 for a line that can't be read as a step.
-fn row_of(line: Line, answer: usize) -> usize {
-    let Line::Step { kind, .. } = line else {
-        return 14;
-    };
-    // a listing that is too long is answered as if its first line couldn't be read
-    if answer == 20 {
-        return 14;
-    }
-    if kind == 0 {
-        return 14;
-    }
-    if 14 < kind {
-        return 14;
-    }
-    kind as usize - 1
-}
-
-// The table's column for an answer: 0 to 20 have one each, and a larger number, which no transcript has, counts as 20.
-fn column_of(answer: usize) -> usize {
-    if answer < 20 {
-        return answer;
-    }
-    20
-}
-
-// Counts one more in the table, up to the 9,999 that it has room for.
-fn add(counts: &mut Table, row: usize, column: usize) {
-    if 14 < row {
-        return;
-    }
-    if 20 < column {
-        return;
-    }
-    let at = row * 21 + column;
-    let count = counts[at];
-    if count < 9999 {
-        counts[at] = count + 1;
+    let first = digit(after[8]).unwrap_or(10);
+    match digit(after[9]) {
+        None => first,
+        Some(second) => first.saturating_mul(10).saturating_add(second),
     }
 }
 
-// The place after the line that begins at this place.
-fn after_line(text: &[u8], place: usize) -> usize
-    requires { place < length text.now }
-    ensures lower_bound { place < result }
-    ensures upper_bound { result ≤ length text.now }
-{
-    let end = place + find(&text[place..], b'\n');
-    if end < text.len() {
-        return end + 1;
+// The table's row for a line: the kind less 1, and the last for a line that can't be read as a step. A listing that is too long is answered
+// as if its first line couldn't be read.
+fn row_of(line: Option<Line>, answer: usize) -> usize {
+    match line {
+        Some(Line::Step { kind, .. }) if answer != UNREADABLE => match kind {
+            1..=14 => kind as usize - 1,
+            _ => NO_NAME,
+        },
+        _ => NO_NAME,
     }
-    end
 }
 
-// Counts each line of the listing that the transcript answers.
-fn count_lines(listing: &[u8], transcript: &[u8], counts: &mut Table) {
-    let mut from = 0;
-    let mut place = 0;
-    while from < listing.len() {
-        if transcript.len() <= place {
-            return;
+// Counts one more in the table, up to the 9,999 that it has room for. The answers 0 to 20 have a column each, and a larger number, which no
+// transcript has, counts as 20.
+fn add(counts: &mut Table, row: usize, answer: usize) {
+    if let Some(columns) = counts.get_mut(row) {
+        if let Some(count) = columns.get_mut(answer.min(20)) {
+            *count = count.saturating_add(1).min(9999);
         }
-        let answer = answer_in(&transcript[place..]);
-        let row = row_of(line::first_line(&listing[from..]), answer);
-        add(counts, row, column_of(answer));
-        from = after_line(listing, from);
-        place = after_line(transcript, place);
+    }
+}
+
+// Counts each line of the listing that the transcript answers. A loop of its own: two texts go side by side, a line of each at a time.
+#[tactic(auto, unfolding(line::specs::Lines::after))]
+fn count_lines(listing: &[u8], transcript: &[u8], counts: &mut Table) {
+    let mut lines = listing;
+    let mut answers = transcript;
+    while !lines.is_empty() && !answers.is_empty() {
+        let answer = answer_in(answers);
+        add(counts, row_of(line::first_line(lines), answer), answer);
+        lines = line::after_line(lines);
+        answers = line::after_line(answers);
     }
 }
 
@@ -174,129 +136,89 @@ fn judge<R: Files>(rt: &R, name: &[u8], counts: &mut Table) -> io::Result<Verdic
     let wanted = read_full(&mut transcript, &mut stored)?;
     count_lines(&input[..given], &stored[..wanted], counts);
     let end = listing::transcript(&input[..given], &mut output);
-    if same(first(&output, end), &stored[..wanted]) {
+    if first(&output, end) == &stored[..wanted] {
         return Ok(Verdict::Agrees);
     }
     Ok(Verdict::Differs)
 }
 
-// The verdict is that the two agree.
-fn agrees(verdict: Verdict) -> bool {
-    match verdict {
-        Verdict::Agrees => true,
-        Verdict::Differs => false,
-        Verdict::Missing => false,
-    }
+// What is printed, in one write: a text that does not fit is left out. An array with its end, into which the texts go piece by piece, for
+// there is no heap.
+#[derive(Drop)]
+struct Report<'a> {
+    page: Page<'a>,
 }
 
-// Writes a listing's name and its verdict into the report.
-fn write_verdict(report: &mut [u8], place: usize, name: &[u8], verdict: Verdict) -> usize {
-    let end = buffer::write(report, place, name);
-    match verdict {
-        Verdict::Agrees => buffer::write(report, end, b": agrees\n"),
-        Verdict::Differs => buffer::write(report, end, b": differs\n"),
-        Verdict::Missing => buffer::write(report, end, b": missing\n"),
+impl Report<'_> {
+    // Writes a number of at most four digits into a column of five bytes.
+    fn write_column(&mut self, number: u64) {
+        let blanks: &[u8] = match number {
+            0..=9 => b"    ",
+            10..=99 => b"   ",
+            100..=999 => b"  ",
+            _ => b" ",
+        };
+        self.page.write(blanks);
+        self.page.write_number(number);
     }
-}
 
-// Writes the blanks before a number in a column of five bytes.
-fn write_blanks(report: &mut [u8], place: usize, number: u64) -> usize {
-    if number < 10 {
-        return buffer::write(report, place, b"    ");
+    // Writes a listing's name and its verdict.
+    fn write_verdict(&mut self, name: &[u8], verdict: Verdict) {
+        let text: &[u8] = match verdict {
+            Verdict::Agrees => b": agrees\n",
+            Verdict::Differs => b": differs\n",
+            Verdict::Missing => b": missing\n",
+        };
+        self.page.write(name);
+        self.page.write(text);
     }
-    if number < 100 {
-        return buffer::write(report, place, b"   ");
-    }
-    if number < 1000 {
-        return buffer::write(report, place, b"  ");
-    }
-    buffer::write(report, place, b" ")
-}
 
-// Writes a number of at most four digits into a column.
-fn write_number(report: &mut [u8], place: usize, number: u64) -> usize {
-    let end = write_blanks(report, place, number);
-    buffer::write_number(report, end, number)
-}
-
-// Writes the table's first line: the answers.
-fn write_answers(report: &mut [u8], place: usize) -> usize {
-    let mut end = buffer::write(report, place, b"\nanswer    ");
-    let mut answer: u64 = 0;
-    while answer < 21 {
-        end = write_number(report, end, answer);
-        answer += 1;
+    // Writes the table's first line: the answers.
+    fn write_answers(&mut self) {
+        self.page.write(b"\nanswer    ");
+        for answer in 0..21 {
+            self.write_column(answer);
+        }
+        self.page.write(b"\n");
     }
-    buffer::write(report, end, b"\n")
-}
 
-// Writes what a row of the table counts.
-fn write_kind(report: &mut [u8], place: usize, row: usize) -> usize {
-    match row {
-        0 => buffer::write(report, place, b"LOAD      "),
-        1 => buffer::write(report, place, b"LOG       "),
-        2 => buffer::write(report, place, b"STORE     "),
-        3 => buffer::write(report, place, b"ACQUIRE   "),
-        4 => buffer::write(report, place, b"LOGREL    "),
-        5 => buffer::write(report, place, b"RELEASE   "),
-        6 => buffer::write(report, place, b"FLUSH     "),
-        7 => buffer::write(report, place, b"FLUSHLOG  "),
-        8 => buffer::write(report, place, b"FENCE     "),
-        9 => buffer::write(report, place, b"PRUNE     "),
-        10 => buffer::write(report, place, b"EVICT     "),
-        11 => buffer::write(report, place, b"EVICTLOG  "),
-        12 => buffer::write(report, place, b"EVICTCELL "),
-        13 => buffer::write(report, place, b"EVICTWORDS"),
-        _ => buffer::write(report, place, b"unreadable"),
+    // Writes a row of the table, and a dot for each count of none.
+    fn write_row(&mut self, name: &[u8], counts: &[u64]) {
+        self.page.write(name);
+        for count in counts {
+            match *count {
+                0 => self.page.write(b"    ."),
+                count => self.write_column(count),
+            }
+        }
+        self.page.write(b"\n");
     }
-}
 
-// Writes a count, and a dot for none.
-fn write_count(report: &mut [u8], place: usize, count: u64) -> usize {
-    if count == 0 {
-        return buffer::write(report, place, b"    .");
+    // Writes the table of kinds against answers.
+    fn write_table(&mut self, counts: &Table) {
+        self.write_answers();
+        for (name, row) in ROWS.iter().zip(counts) {
+            self.write_row(name, row);
+        }
     }
-    write_number(report, place, count)
-}
 
-// Writes a row of the table.
-fn write_row(report: &mut [u8], place: usize, counts: &Table, row: usize) -> usize
-    requires { row < 15 }
-{
-    let mut end = write_kind(report, place, row);
-    let mut column = 0;
-    while column < 21 {
-        end = write_count(report, end, counts[row * 21 + column]);
-        column += 1;
+    // Writes how many listings agree, and how many don't.
+    fn write_sums(&mut self, passed: u64, failed: u64) {
+        self.page.write(b"\n");
+        self.page.write_number(passed);
+        self.page.write(b" pass, ");
+        self.page.write_number(failed);
+        self.page.write(b" fail\n");
     }
-    buffer::write(report, end, b"\n")
-}
-
-// Writes the table of kinds against answers.
-fn write_table(report: &mut [u8], place: usize, counts: &Table) -> usize {
-    let mut end = write_answers(report, place);
-    let mut row = 0;
-    while row < 15 {
-        end = write_row(report, end, counts, row);
-        row += 1;
-    }
-    end
-}
-
-// Writes how many listings agree, and how many don't.
-fn write_sums(report: &mut [u8], place: usize, passed: u64, failed: u64) -> usize {
-    let end = buffer::write(report, place, b"\n");
-    let end = buffer::write_number(report, end, passed);
-    let end = buffer::write(report, end, b" pass, ");
-    let end = buffer::write_number(report, end, failed);
-    buffer::write(report, end, b" fail\n")
 }
 
 // Marks the listings that are named, then prints the verdicts, the table and the sums in one write.
 fn main(rt: HostRuntime) -> io::Result<()> {
-    let mut report = [0u8; 8192];
-    let mut counts = [0u64; 315];
-    let mut end = 0;
+    let mut bytes = [0u8; 8192];
+    let mut report = Report {
+        page: Page::new(&mut bytes),
+    };
+    let mut counts = [[0u64; 21]; 15];
     let mut passed: u64 = 0;
     let mut failed: u64 = 0;
     for i in 1..usize::MAX {
@@ -307,14 +229,15 @@ fn main(rt: HostRuntime) -> io::Result<()> {
             Err(FillError::NotPresent) => break,
         };
         let verdict = judge(&rt, &name[..length], &mut counts)?;
-        end = write_verdict(&mut report, end, &name[..length], verdict);
-        if agrees(verdict) {
+        report.write_verdict(&name[..length], verdict);
+        if verdict == Verdict::Agrees {
             passed += 1;
         } else {
             failed += 1;
         }
     }
-    end = write_table(&mut report, end, &counts);
-    end = write_sums(&mut report, end, passed, failed);
-    io::writer(&rt).write_all(first(&report, end))
+    report.write_table(&counts);
+    report.write_sums(passed, failed);
+    let end = report.page.place;
+    io::writer(&rt).write_all(first(&bytes, end))
 }

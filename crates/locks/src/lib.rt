@@ -1,102 +1,44 @@
-// Locks, and ACQUIRE, LOGREL and RELEASE on parts of the machine. Every function takes any parts.
+// Locks, and ACQUIRE, LOGREL and RELEASE on parts of the machine. Every function takes any parts, one by one, as `acquire_on`,
+// `log_release_on` and `release_on` name them: a struct of just these would be put together for one call each.
 #![tactic(auto)]
 
 ghost use Rattle.std.specs.Prelude.{◌≡◌, ◌-◌, ltb};
 ghost use Rattle.answer.specs.Refusals.{first_refusal};
-ghost use Rattle.locks.specs.Locks.{is_held, is_held_by, taken_by, one_more, free_of, count_of};
+ghost use Rattle.locks.specs.Locks.{one_more, free_of, count_of};
 ghost use Rattle.locks.specs.LockSteps.{acquire_tests_on, acquire_on, log_release_tests_on, log_release_on, release_tests, release_on};
 
-use answer::Answer;
+use answer::{Answer, Refusal};
 use clocks::Clock;
 use event::{Event, SyncCount};
+use ring::Lsn;
 use tail::Tail;
-use thread_log::{Changed, Log};
+use thread_log::Log;
 use undo::enter;
 
-// The largest lock count that there is room for.
-const LARGEST: u64 = 18446744073709551615;
-
-// Who holds a lock.
-#[derive(Clone, Copy)]
-pub enum Holder {
-    Nobody,
-    Thread(u8),
-}
-
-// A lock: its holder, how often it was released, and how many pruned regions end in a RELEASE of it.
+// A lock: the thread that holds it, if any, how often it was released, and how many pruned regions end in a RELEASE of it.
 #[derive(Clone, Copy)]
 pub struct Lock {
-    pub holder: Holder,
+    pub holder: Option<u8>,
     pub count: SyncCount,
     pub pruned: SyncCount,
-}
-
-// The answer of an ACQUIRE or a RELEASE, beside the thread's log, the lock and the thread's clock after it.
-#[derive(Clone, Copy)]
-pub struct Handed {
-    pub answer: Answer,
-    pub log: Log,
-    pub lock: Lock,
-    pub clock: Clock,
 }
 
 // One release more, where the count can grow.
 fn one_more(count: SyncCount) -> SyncCount
     ensures { result ≡ one_more count }
 {
-    if count.0 < LARGEST {
-        return SyncCount(count.0 + 1);
-    }
-    count
-}
-
-impl Holder {
-    // Some thread holds the lock.
-    fn is_held(self) -> bool
-        ensures { result ≡ is_held self }
-    {
-        match self {
-            Holder::Nobody => false,
-            Holder::Thread(_) => true,
-        }
-    }
-
-    // This thread holds the lock.
-    fn is_held_by(self, thread: u8) -> bool
-        ensures { result ≡ is_held_by self thread }
-    {
-        match self {
-            Holder::Nobody => false,
-            Holder::Thread(holder) => holder == thread,
-        }
-    }
+    SyncCount(count.0.saturating_add(1))
 }
 
 impl Lock {
-    // The lock in this thread's hands.
-    fn taken_by(self, thread: u8) -> Lock
-        ensures { result ≡ taken_by self thread }
-    {
-        let count = self.count;
-        let pruned = self.pruned;
-        Lock {
-            holder: Holder::Thread(thread),
-            count,
-            pruned,
-        }
-    }
-
     // The lock after a RELEASE of it.
     fn free(self) -> Lock
         ensures { result ≡ free_of self }
     {
-        let nobody = Holder::Nobody;
-        let count = one_more(self.count);
-        let pruned = self.pruned;
         Lock {
-            holder: nobody,
-            count,
-            pruned,
+            holder: None,
+            count: one_more(self.count),
+            ..self
         }
     }
 
@@ -104,133 +46,100 @@ impl Lock {
     pub fn counted(self) -> Lock
         ensures { result ≡ count_of self }
     {
-        let holder = self.holder;
-        let count = self.count;
-        let pruned = one_more(self.pruned);
         Lock {
-            holder,
-            count,
-            pruned,
+            pruned: one_more(self.pruned),
+            ..self
         }
     }
 }
 
-// The last entry comes after the last durable one.
-fn ends_undurable(tail: Tail) -> bool
-    ensures { result ≡ ltb tail.durable.0 (tail.next.0 - 1) }
+// Some entry before this LSN comes after the last durable one: 11 for a RELEASE and for a PRUNE.
+pub fn is_undurable_before(tail: Tail, end: Lsn) -> bool
+    ensures { result ≡ ltb tail.durable.0 (end.0 - 1) }
 {
-    let durable = tail.durable;
-    let next = tail.next;
-    (durable.0 as u64) + 1 < next.0 as u64
+    u64::from(tail.durable.0) + 1 < u64::from(end.0)
 }
 
 // ACQUIRE's own tests, before those of its append: 7, 12.
-fn acquire_answer(log: Log, lock: Lock) -> Answer
-    ensures { result ≡ first_refusal (acquire_tests_on log lock) }
+#[tactic(auto, unfolding(answer::specs::Refusals::first_refusal, answer::specs::Refusals::unless))]
+fn acquire_answer(log: &Log, lock: Lock) -> Answer
+    ensures { result ≡ first_refusal (acquire_tests_on log.now lock) }
 {
-    let tail = log.tail;
-    if tail.is_releasing() {
-        return Answer::Releasing;
+    if log.tail.is_releasing() {
+        return Err(Refusal::Releasing);
     }
-    let holder = lock.holder;
-    if holder.is_held() {
-        return Answer::LockHeld;
+    if lock.holder.is_some() {
+        return Err(Refusal::LockHeld);
     }
-    Answer::Accepted(0)
+    Ok(0)
 }
 
 // ACQUIRE: takes a free lock, with an ACQUIRE entry of its count. The thread knows what the lock's last RELEASE knew. Answers the count.
-pub fn acquire(log: Log, lock: Lock, clock: Clock, last: Clock, thread: u8, place: u8) -> Handed
-    ensures { result ≡ acquire_on log lock clock last thread place }
+pub fn acquire(
+    log: &mut Log,
+    lock: &mut Lock,
+    clock: &mut Clock,
+    last: Clock,
+    thread: u8,
+    place: u8,
+) -> Answer
+    ensures { record { answer = result; log = log.new; lock = lock.new; clock = clock.new }
+        ≡ acquire_on log.old lock.old clock.old last thread place }
 {
-    let asked = acquire_answer(log, lock);
+    let asked = acquire_answer(log, *lock);
     let count = lock.count;
-    let entered = enter(log, asked, Event::Acquire { lock: place, count });
-    let answer = entered.answer;
-    let begun = entered.log;
-    if answer::number(answer) != 0 {
-        return Handed {
-            answer,
-            log: begun,
-            lock,
-            clock,
-        };
-    }
-    Handed {
-        answer: Answer::Accepted(count.0),
-        log: begun,
-        lock: lock.taken_by(thread),
-        clock: clock.join(last),
-    }
+    enter(log, asked, Event::Acquire { lock: place, count })?;
+    lock.holder = Some(thread);
+    *clock = clock.join(last);
+    Ok(count.0)
 }
 
 // LOGREL's own tests, before those of its append: 7, 13.
-fn log_release_answer(log: Log, lock: Lock, thread: u8) -> Answer
-    ensures { result ≡ first_refusal (log_release_tests_on log lock thread) }
+#[tactic(auto, unfolding(answer::specs::Refusals::first_refusal, answer::specs::Refusals::unless))]
+fn log_release_answer(log: &Log, lock: Lock, thread: u8) -> Answer
+    ensures { result ≡ first_refusal (log_release_tests_on log.now lock thread) }
 {
-    let tail = log.tail;
-    if tail.is_releasing() {
-        return Answer::Releasing;
+    if log.tail.is_releasing() {
+        return Err(Refusal::Releasing);
     }
-    let holder = lock.holder;
-    if !holder.is_held_by(thread) {
-        return Answer::LockNotHeld;
+    if lock.holder != Some(thread) {
+        return Err(Refusal::LockNotHeld);
     }
-    Answer::Accepted(0)
+    Ok(0)
 }
 
 // LOGREL: a RELEASE entry with the lock's count, where the thread holds the lock. Answers the count.
-pub fn log_release(log: Log, lock: Lock, thread: u8, place: u8) -> Changed
-    ensures { result ≡ log_release_on log lock thread place }
+pub fn log_release(log: &mut Log, lock: Lock, thread: u8, place: u8) -> Answer
+    ensures { record { answer = result; log = log.new } ≡ log_release_on log.old lock thread place }
 {
     let asked = log_release_answer(log, lock, thread);
     let count = lock.count;
-    let entered = enter(log, asked, Event::Release { lock: place, count });
-    let answer = entered.answer;
-    let grown = entered.log;
-    if answer::number(answer) != 0 {
-        return Changed { answer, log: grown };
-    }
-    Changed {
-        answer: Answer::Accepted(count.0),
-        log: grown,
-    }
+    enter(log, asked, Event::Release { lock: place, count })?;
+    Ok(count.0)
 }
 
 // Why a thread with this log may not take the RELEASE step of the lock: 14, 11. The RELEASE entry is the log's last one.
-fn release_answer(log: Log, place: u8) -> Answer
-    ensures { result ≡ first_refusal (release_tests log place) }
+#[tactic(auto, unfolding(answer::specs::Refusals::first_refusal, answer::specs::Refusals::unless, crate::specs::LockSteps::release_tests))]
+fn release_answer(log: &Log, place: u8) -> Answer
+    ensures { result ≡ first_refusal (release_tests log.now place) }
 {
-    let tail = log.tail;
-    if !tail.is_releasing_lock(place) {
-        return Answer::NotReleasing;
+    if !log.tail.is_releasing_lock(place) {
+        return Err(Refusal::NotReleasing);
     }
-    if ends_undurable(tail) {
-        return Answer::EntryNotDurable;
+    if is_undurable_before(log.tail, log.tail.next) {
+        return Err(Refusal::EntryNotDurable);
     }
-    Answer::Accepted(0)
+    Ok(0)
 }
 
 // RELEASE: the lock is free, with one release more, and the thread's own number grows.
-pub fn release(mut log: Log, lock: Lock, clock: Clock, thread: u8, place: u8) -> Handed
-    ensures { result ≡ release_on log lock clock thread place }
+pub fn release(log: &mut Log, lock: &mut Lock, clock: &mut Clock, thread: u8, place: u8) -> Answer
+    ensures { record { answer = result; log = log.new; lock = lock.new; clock = clock.new }
+        ≡ release_on log.old lock.old clock.old thread place }
 {
-    let asked = release_answer(log, place);
-    if answer::number(asked) != 0 {
-        return Handed {
-            answer: asked,
-            log,
-            lock,
-            clock,
-        };
-    }
-    let closing = log.tail;
-    let ended = closing.released();
-    log.tail = ended;
-    Handed {
-        answer: Answer::Accepted(0),
-        log,
-        lock: lock.free(),
-        clock: clock.raise(thread),
-    }
+    release_answer(log, place)?;
+    log.tail = log.tail.released();
+    *lock = lock.free();
+    *clock = clock.raise(thread);
+    Ok(0)
 }

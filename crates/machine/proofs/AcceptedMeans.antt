@@ -1,4 +1,5 @@
 -- What it means, kind by kind, that every test of a step failed: what an accepted step's fields and the machine before it are like.
+use Rattle.std.specs.Prelude.{Option, None, Some}
 use Prim.Native.Nat.{ℕ, ◌+◌, ◌-◌, ◌≤◌, ◌<◌}
 use mathlib.Core.Path.{◌≡◌, refl, ap, subst}
 use mathlib.Core.Bool.{true, false, not, true≢false}
@@ -12,24 +13,21 @@ use Rattle.undo.specs.Entering.{live_event}
 use Rattle.thread_log.specs.Entries.{append_tests, is_live_slot, evict_slot_tests}
 use Rattle.undo.specs.Regions.{logged_of, oldest_region, is_finished, is_found, is_undurable_found}
 use Rattle.ring.specs.Ring.{lsn}
+use Rattle.ring.specs.declared.Lsn.{Lsn}
 use Rattle.tail.specs.Tail.{is_releasing, is_releasing_lock}
-use Rattle.undo.specs.declared.Found.{Found}
-use Rattle.undo.specs.declared.Found.TheVariants.{Nowhere, At}
 use Rattle.thread_log.specs.declared.Log.{Log}
-use Rattle.tail.specs.declared.Releasing.{Releasing}
-use Rattle.tail.specs.declared.Releasing.TheVariants.{Nothing, Lock}
 use Rattle.machine.specs.Clocks.{load_races, log_races}
 use Rattle.accessing.specs.Logs.{first_log_tests}
 use Rattle.machine.specs.Holds.{log_of, lock_of, clock_of}
 use Rattle.locks.specs.Locks.{is_held, is_held_by}
-use Rattle.kinds.specs.Kinds.{LOAD, LOG, STORE, ACQUIRE, LOGREL, RELEASE, FLUSH, FLUSHLOG, FENCE, PRUNE, EVICTLOG}
-use Rattle.kinds.specs.Kinds.{EVICTCELL, EVICTWORDS, input_tests}
+use Rattle.kinds.specs.Kinds.{input_tests}
+use Rattle.kinds.specs.declared.Kind.TheVariants.{Load as LOAD, Log as LOG, Store as STORE, Acquire as ACQUIRE, LogRel as LOGREL}
+use Rattle.kinds.specs.declared.Kind.TheVariants.{Release as RELEASE, Flush as FLUSH, FlushLog as FLUSHLOG, Fence as FENCE}
+use Rattle.kinds.specs.declared.Kind.TheVariants.{Prune as PRUNE, EvictLog as EVICTLOG, EvictCell as EVICTCELL, EvictWords as EVICTWORDS}
 use Rattle.locks.specs.LockSteps.{release_tests}
 use Rattle.prune.specs.Pruning.{awaits_release, logs_undurable, prune_tests}
 use Rattle.machine.specs.Refusals.{load_tests, log_tests, store_tests, acquire_tests, log_release_tests, state_tests}
-use Rattle.locks.specs.declared.Holder.{Holder}
-use Rattle.locks.specs.declared.Holder.TheVariants.{Nobody, Thread}
-use Rattle.machine.specs.declared.Machine.{Machine}
+use Rattle.machine.specs.State.{Machine}
 use Rattle.machine.proofs.StepLaws.{tests_of}
 
 below-bound : (number bound : ℕ) → not (ltb number bound) ≡ false → number < bound
@@ -38,26 +36,26 @@ below-bound number bound fails = ltb-true number bound (not-false (ltb number bo
 is_zero : (number : ℕ) → not (eqb number 0) ≡ false → number ≡ 0
 is_zero number fails = eqb-true number 0 (not-false (eqb number 0) fails)
 
-pub releases-nothing : (releasing : Releasing) → is_releasing releasing ≡ false → releasing ≡ Nothing
-releases-nothing Nothing fails = refl
-releases-nothing (Lock lock) fails = absurd (true≢false fails)
+pub releases-nothing : (releasing : Option ℕ) → is_releasing releasing ≡ false → releasing ≡ None
+releases-nothing None fails = refl
+releases-nothing (Some lock) fails = absurd (true≢false fails)
 
-releases_lock : (releasing : Releasing) (lock : ℕ) → not (is_releasing_lock releasing lock) ≡ false → releasing ≡ Lock lock
-releases_lock Nothing lock fails = absurd (true≢false fails)
-releases_lock (Lock held) lock fails = ap Lock (eqb-true held lock (not-false (eqb held lock) fails))
+releases_lock : (releasing : Option ℕ) (lock : ℕ) → not (is_releasing_lock releasing lock) ≡ false → releasing ≡ Some lock
+releases_lock None lock fails = absurd (true≢false fails)
+releases_lock (Some held) lock fails = ap Some (eqb-true held lock (not-false (eqb held lock) fails))
 
-pub held-by_nobody : (holder : Holder) → is_held holder ≡ false → holder ≡ Nobody
-held-by_nobody Nobody fails = refl
-held-by_nobody (Thread thread) fails = absurd (true≢false fails)
+pub held-by_nobody : (holder : Option ℕ) → is_held holder ≡ false → holder ≡ None
+held-by_nobody None fails = refl
+held-by_nobody (Some thread) fails = absurd (true≢false fails)
 
-held-by_thread : (holder : Holder) (thread : ℕ) → not (is_held_by holder thread) ≡ false → holder ≡ Thread thread
-held-by_thread Nobody thread fails = absurd (true≢false fails)
-held-by_thread (Thread holder) thread fails = ap Thread (eqb-true holder thread (not-false (eqb holder thread) fails))
+held-by_thread : (holder : Option ℕ) (thread : ℕ) → not (is_held_by holder thread) ≡ false → holder ≡ Some thread
+held-by_thread None thread fails = absurd (true≢false fails)
+held-by_thread (Some holder) thread fails = ap Some (eqb-true holder thread (not-false (eqb holder thread) fails))
 
-found_durable : (log : Log) (found : Found) → not (is_found found) ≡ false → is_undurable_found log found ≡ false
-    → (number : ℕ) × (found ≡ At (lsn number)) × (number ≤ log.tail.durable.0)
-found_durable log Nowhere is_found is_durable = absurd (true≢false is_found)
-found_durable log (At number) is_found is_durable = (number.0, refl, ltb-false log.tail.durable.0 number.0 is_durable)
+found_durable : (log : Log) (found : Option Lsn) → not (is_found found) ≡ false → is_undurable_found log found ≡ false
+    → (number : ℕ) × (found ≡ Some (lsn number)) × (number ≤ log.tail.durable.0)
+found_durable log None is_found is_durable = absurd (true≢false is_found)
+found_durable log (Some number) is_found is_durable = (number.0, refl, ltb-false log.tail.durable.0 number.0 is_durable)
 
 pub record LoadAsked (machine : Machine) (thread cell value : ℕ) : Type 0 where
   pub in_thread : thread < thread_count
@@ -80,7 +78,7 @@ pub record LogAsked (machine : Machine) (thread cell value : ℕ) : Type 0 where
   pub in_thread : thread < thread_count
   pub in_cell : cell < 128
   pub no_value : value ≡ 0
-  pub not_releasing : (log_of machine thread).tail.releasing ≡ Nothing
+  pub not_releasing : (log_of machine thread).tail.releasing ≡ None
 
 pub log_asked : (machine : Machine) (thread cell value : ℕ) → AllFail (tests_of machine LOG thread cell value)
     → LogAsked machine thread cell value
@@ -98,21 +96,21 @@ pub record FirstLogAsked (machine : Machine) (thread cell : ℕ) : Type 0 where
   pub room : AllFail (append_tests (log_of machine thread))
 
 pub first_log_asked : (machine : Machine) (thread cell value : ℕ) → AllFail (tests_of machine LOG thread cell value)
-    → logged_of (log_of machine thread) cell ≡ Nowhere → FirstLogAsked machine thread cell
+    → logged_of (log_of machine thread) cell ≡ None → FirstLogAsked machine thread cell
 unfolding input_tests state_tests log_tests log_races
 first_log_asked machine thread cell value fails is_nowhere =
     let tests = first_log_tests (log_of machine thread) machine.accesses (clock_of machine thread) cell in
     let asked : AllFail (guarded true tests) =
-    subst (λ (found : Found). AllFail (guarded (not (is_found found)) tests)) is_nowhere fails.1.1.1.1 in
+    subst (λ (found : Option Lsn). AllFail (guarded (not (is_found found)) tests)) is_nowhere fails.1.1.1.1 in
     let own : AllFail tests = subst AllFail (guarded-asked tests) asked in
     record { no_race = own.0; room = own.1 }
 
 pub record StoreAsked (machine : Machine) (thread cell : ℕ) : Type 0 where
   pub in_thread : thread < thread_count
   pub in_cell : cell < 128
-  pub not_releasing : (log_of machine thread).tail.releasing ≡ Nothing
+  pub not_releasing : (log_of machine thread).tail.releasing ≡ None
   pub number : ℕ
-  pub is_logged : logged_of (log_of machine thread) cell ≡ At (lsn number)
+  pub is_logged : logged_of (log_of machine thread) cell ≡ Some (lsn number)
   pub is_durable : number ≤ (log_of machine thread).tail.durable.0
 
 pub store_asked : (machine : Machine) (thread cell value : ℕ) → AllFail (tests_of machine STORE thread cell value)
@@ -134,8 +132,8 @@ pub record AcquireAsked (machine : Machine) (thread lock value : ℕ) : Type 0 w
   pub in_thread : thread < thread_count
   pub in_lock : lock < lock_count
   pub no_value : value ≡ 0
-  pub not_releasing : (log_of machine thread).tail.releasing ≡ Nothing
-  pub is_free : (lock_of machine lock).holder ≡ Nobody
+  pub not_releasing : (log_of machine thread).tail.releasing ≡ None
+  pub is_free : (lock_of machine lock).holder ≡ None
   pub room : AllFail (append_tests (log_of machine thread))
 
 pub acquire_asked : (machine : Machine) (thread lock value : ℕ) → AllFail (tests_of machine ACQUIRE thread lock value)
@@ -154,8 +152,8 @@ pub record LogReleaseAsked (machine : Machine) (thread lock value : ℕ) : Type 
   pub in_thread : thread < thread_count
   pub in_lock : lock < lock_count
   pub no_value : value ≡ 0
-  pub not_releasing : (log_of machine thread).tail.releasing ≡ Nothing
-  pub is_held_by_self : (lock_of machine lock).holder ≡ Thread thread
+  pub not_releasing : (log_of machine thread).tail.releasing ≡ None
+  pub is_held_by_self : (lock_of machine lock).holder ≡ Some thread
   pub room : AllFail (append_tests (log_of machine thread))
 
 pub log_release_asked : (machine : Machine) (thread lock value : ℕ) → AllFail (tests_of machine LOGREL thread lock value)
@@ -174,7 +172,7 @@ pub record ReleaseAsked (machine : Machine) (thread lock value : ℕ) : Type 0 w
   pub in_thread : thread < thread_count
   pub in_lock : lock < lock_count
   pub no_value : value ≡ 0
-  pub is_releasing_it : (log_of machine thread).tail.releasing ≡ Lock lock
+  pub is_releasing_it : (log_of machine thread).tail.releasing ≡ Some lock
   pub last_durable : (log_of machine thread).tail.next.0 - 1 ≤ (log_of machine thread).tail.durable.0
 
 pub release_asked : (machine : Machine) (thread lock value : ℕ) → AllFail (tests_of machine RELEASE thread lock value)

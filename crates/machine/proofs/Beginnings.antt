@@ -1,4 +1,5 @@
 -- The machines that a list of steps may begin at: any cells, four idle logs, nothing held and nothing accessed. The start call's is one.
+use Rattle.std.specs.Prelude.{None}
 use Prim.Native.Nat.{ℕ, ◌*◌, ◌<◌}
 use native.Mathlib.Decide.{dec_lt, ℕ_discrete}
 use native.Mathlib.Omega.{arith}
@@ -10,14 +11,13 @@ use borrow.Author.Tests.{eq-eqb, ne_eqb}
 use Rattle.sizes.specs.Sizes.{thread_count, lock_count}
 use Rattle.answer.proofs.ListLaws.{get_d-blank}
 use Rattle.cache.specs.Cache.{cell_count, cache_of}
-use Rattle.tail.specs.declared.Releasing.TheVariants.{Nothing}
 use Rattle.thread_log.specs.Entries.{fresh_log}
 use Rattle.thread_log.specs.declared.Log.{Log}
 use Rattle.thread_log.proofs.Idle.{Idle, fresh_idle}
 use Rattle.machine.specs.Holds.{no_log, lock_of, fresh_machine, start_of}
 use Rattle.locks.specs.Locks.{no_lock}
 use Rattle.clocks.specs.Clocks.{no_clock, start_clocks}
-use Rattle.machine.specs.declared.Machine.{Machine}
+use Rattle.machine.specs.State.{Machine}
 
 -- the machine with these cells and logs
 abbrev pub machine_with : List ℕ → List Log → Machine
@@ -48,8 +48,8 @@ module _ (logs : List Log) (all : AllIdle logs) where
       (λ in_range. within (get_or logs thread no_log) (all.idle thread in_range))
       (λ over. subst P (sym (get_or-eq_default logs no_log {n = thread} (omega (arith, over, all.for_threads)))) beyond)
 
-  pub releases-nothing : (thread : ℕ) → (get_or logs thread no_log).tail.releasing ≡ Nothing
-  releases-nothing = each-log (λ log. log.tail.releasing ≡ Nothing) (λ log is. is.releases_nothing) refl
+  pub releases-nothing : (thread : ℕ) → (get_or logs thread no_log).tail.releasing ≡ None
+  releases-nothing = each-log (λ log. log.tail.releasing ≡ None) (λ log is. is.releases_nothing) refl
 
   pub lock-free : (cells : List ℕ) (lock : ℕ) → lock_of (machine_with cells logs) lock ≡ no_lock
   lock-free cells lock = get_d-blank lock_count lock no_lock

@@ -1,5 +1,6 @@
 -- Lock counts and clocks are bounded by the entries made, since each RELEASE step uses up a RELEASE entry, and prunings by how far the
 -- heads moved. So no count of a lock passes 4,000,000, and no number of a clock 1,000,001.
+use Rattle.std.specs.Prelude.{Some}
 use Prim.Native.Nat.{ℕ, zero, suc, ◌+◌, ◌-◌, ◌≤◌, ◌<◌, ◌*◌}
 use native.Mathlib.Decide.{dec_lt, ℕ_discrete}
 use native.Mathlib.Omega.{arith}
@@ -22,7 +23,6 @@ use Rattle.event.specs.declared.Event.{Event}
 use Rattle.event.specs.declared.Event.TheVariants.{Empty, Store, Acquire, Release}
 use Rattle.thread_log.specs.declared.Log.{Log}
 use native.Mathlib.Nat.{suc-mul}
-use Rattle.tail.specs.declared.Releasing.TheVariants.{Lock}
 use Rattle.thread_log.proofs.LogInvariant.{append_room}
 use Rattle.region.proofs.OldestLaws.{region-live, finished_some}
 use Rattle.clocks.specs.Clocks.{clock_at, join_of, raised_of, no_clock, start_clocks}
@@ -32,12 +32,14 @@ use Rattle.machine.specs.Effects.{flush_effect, flush_log_effect, fence_effect, 
 use Rattle.machine.specs.Effects.{evict_cell_effect, evict_words_effect}
 use Rattle.locks.specs.Locks.{pruned_locks, no_lock}
 use Rattle.machine.specs.Holds.{no_log, log_of, lock_of, clock_of, lock_clock_of, start_of}
-use Rattle.kinds.specs.Kinds.{Kind, LOAD, LOG, STORE, ACQUIRE, LOGREL, RELEASE, FLUSH, FLUSHLOG, FENCE, PRUNE, EVICTLOG}
-use Rattle.kinds.specs.Kinds.{EVICTCELL, EVICTWORDS}
+use Rattle.kinds.specs.declared.Kind.{Kind}
+use Rattle.kinds.specs.declared.Kind.TheVariants.{Load as LOAD, Log as LOG, Store as STORE, Acquire as ACQUIRE, LogRel as LOGREL}
+use Rattle.kinds.specs.declared.Kind.TheVariants.{Release as RELEASE, Flush as FLUSH, FlushLog as FLUSHLOG, Fence as FENCE}
+use Rattle.kinds.specs.declared.Kind.TheVariants.{Prune as PRUNE, EvictLog as EVICTLOG, EvictCell as EVICTCELL, EvictWords as EVICTWORDS}
 use Rattle.machine.specs.Runs.{Step, after, Reached}
 use Rattle.clocks.specs.declared.Clock.{Clock}
 use Rattle.locks.specs.declared.Lock.{Lock as LockState}
-use Rattle.machine.specs.declared.Machine.{Machine}
+use Rattle.machine.specs.State.{Machine}
 use Rattle.machine.proofs.AcceptedMeans.{log_asked, first_log_asked, acquire_asked, log_release_asked, release_asked}
 use Rattle.machine.proofs.AcceptedMeans.{flush_log_asked, fence_asked, prune_asked, evict_log_asked, evict_words-asked}
 use Rattle.machine.proofs.LogCases.{log_cases}
@@ -235,7 +237,7 @@ unfolding append_of grown_tail
 append_pays log event fails live = omega (arith, (append_room log fails).0, closing-most (enter_of log event))
 
 -- a RELEASE step uses up what the thread has been releasing
-ends_pays : (log : Log) (lock : ℕ) → log.tail.releasing ≡ Lock lock → next_of log ≤ 1000001 → head_of log ≤ next_of log
+ends_pays : (log : Log) (lock : ℕ) → log.tail.releasing ≡ Some lock → next_of log ≤ 1000001 → head_of log ≤ next_of log
     → Pays log (end_release_of log) 1 0
 unfolding end_release_of released_tail
 ends_pays log lock releases bound live = let closing : closing_of log ≡ 1 = rw releases in omega arith

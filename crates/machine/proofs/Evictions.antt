@@ -1,5 +1,6 @@
 -- EVICTCELL by the cell: one that is in range is evicted whatever the state, and one that is not is refused. And what is left of all
 -- cells evicted one after the other.
+use Rattle.std.specs.Prelude.{Err}
 use Prim.Native.Nat.{ℕ, zero, suc, ◌≤◌, ◌<◌}
 use native.Mathlib.Numerals.{add-one}
 use native.Mathlib.Omega.{arith}
@@ -9,7 +10,7 @@ use lib.ListN.{length}
 use borrow.Author.Tests.{lt-ltb, le-ltb}
 use Rattle.answer.specs.Lists.{tab}
 use Rattle.answer.specs.Refusals.{unless}
-use Rattle.answer.specs.declared.Answer.TheVariants.{NoSuchPlace}
+use Rattle.answer.specs.declared.Refusal.TheVariants.{NoSuchPlace}
 use Rattle.answer.proofs.ListLaws.{tab-last, partly, partly-write, partly-all}
 use Rattle.cache.specs.Cache.{cell_count, cached_at, evict_cell_of}
 use Rattle.cache.proofs.CacheLaws.{Sized, with_persisted}
@@ -19,7 +20,7 @@ use Rattle.machine.specs.Holds.{with_cache}
 use Rattle.machine.specs.Refusals.{state_tests}
 use Rattle.machine.specs.Runs.{Step, after, evict_all}
 use Rattle.machine.specs.Steps.{refused, step_of_kind, step_of}
-use Rattle.machine.specs.declared.Machine.{Machine}
+use Rattle.machine.specs.State.{Machine}
 use Rattle.machine.specs.declared.Stepped.{Stepped}
 use Rattle.machine.proofs.Reaching.{after_then}
 
@@ -28,7 +29,7 @@ module _ (machine : Machine) (cell : ℕ) where
   unfolding step_of step_of_kind kind_of input_tests state_tests unless effect evict_cell_effect
   evict-cell-taken within = rw (lt-ltb cell cell_count within)
 
-  pub evict-cell-refused : cell_count ≤ cell → step_of machine 13 0 cell 0 ≡ refused machine NoSuchPlace
+  pub evict-cell-refused : cell_count ≤ cell → step_of machine 13 0 cell 0 ≡ refused machine (Err NoSuchPlace)
   unfolding step_of step_of_kind kind_of input_tests state_tests unless effect evict_cell_effect
   evict-cell-refused past = rw (le-ltb cell cell_count past)
 

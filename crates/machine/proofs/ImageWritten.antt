@@ -22,7 +22,7 @@ use Rattle.machine.specs.Holds.{no_log, log_of}
 use Rattle.machine.specs.Image.{image_of}
 use Rattle.writer.specs.Written.{written_of, log_into}
 use Rattle.machine.specs.Runs.{Reached}
-use Rattle.machine.specs.declared.Machine.{Machine}
+use Rattle.machine.specs.State.{Machine}
 use Rattle.machine.proofs.Stretches.{reached_stretched, all-logs, all_slots}
 
 -- what stands before and from a place of a list whose rest is another list

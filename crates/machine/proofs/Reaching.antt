@@ -1,11 +1,15 @@
 -- The machines of the start call and of steps are reached: what code over the methods hands on from call to call.
 use Prim.Native.Nat.{ℕ}
-use mathlib.Core.Path.{◌≡◌, refl, ap, ◌∙◌}
+use mathlib.Core.Path.{◌≡◌, refl, ap, ◌∙◌, subst⁻¹}
 use mathlib.Core.List.{List, [], ◌∷◌, ◌++◌}
-use Rattle.machine.specs.Holds.{start_of}
+use lib.ListN.{length}
+use borrow.Author.Tests.{eq-eqb}
+use Rattle.cache.specs.Cache.{cell_count}
+use Rattle.machine.specs.Holds.{fresh_machine, start_of}
 use Rattle.machine.specs.Runs.{Step, step_with, after, Reached}
 use Rattle.machine.specs.Steps.{step_of}
-use Rattle.machine.specs.declared.Machine.{Machine}
+use Rattle.machine.specs.State.{Machine}
+use Rattle.machine.specs.declared.Stepped.{Stepped}
 
 -- one step more at the end of a list
 pub after_then : (machine : Machine) (steps : List Step) (step : Step)
@@ -20,9 +24,10 @@ unfolding after
 after_append machine [] others = refl
 after_append machine (step ∷ steps) others = after_append (step_with machine step).machine steps others
 
-pub start-reached : (words : List ℕ) → Reached (start_of words).machine
-unfolding after
-start-reached words = record { words = words; steps = []; leads = refl }
+-- the start call's machine, where its words are 128
+pub fresh-reached : (cells : List ℕ) → length cells ≡ cell_count → Reached (fresh_machine cells)
+unfolding start_of after
+fresh-reached cells long = record { words = cells; steps = []; leads = rw (eq-eqb (length cells) cell_count long) }
 
 pub step-reached : (machine : Machine) (kind thread place value : ℕ) → Reached machine
     → Reached (step_of machine kind thread place value).machine
@@ -35,6 +40,12 @@ step-reached machine kind thread place value reached =
           ap (λ (before : Machine). (step_with before step).machine) reached.leads ∙
           rw (after_then (start_of reached.words).machine reached.steps step);
     }
+
+-- what a method leaves of a machine's fields is reached, where it is what a step leaves
+pub step-closes : {machine : Machine} (kind thread place value : ℕ) {stepped : Stepped} → Reached machine
+    → stepped ≡ step_of machine kind thread place value → Reached stepped.machine
+step-closes kind thread place value reached is =
+    subst⁻¹ (λ (stepped : Stepped). Reached stepped.machine) is (step-reached _ kind thread place value reached)
 
 pub after-reached : (machine : Machine) (steps : List Step) → Reached machine → Reached (after machine steps)
 unfolding after

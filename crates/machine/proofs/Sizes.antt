@@ -17,10 +17,12 @@ use Rattle.machine.specs.Effects.{load_effect, first_log_effect, store_effect, a
 use Rattle.machine.specs.Effects.{flush_effect, flush_log_effect, fence_effect, prune_effect, count_pruned}
 use Rattle.machine.specs.Effects.{evict_log_effect, evict_cell_effect, evict_words_effect, effect}
 use Rattle.machine.specs.Holds.{log_of, with_cache, with_log, start_of}
-use Rattle.kinds.specs.Kinds.{Kind, LOAD, LOG, STORE, ACQUIRE, LOGREL, RELEASE, FLUSH, FLUSHLOG, FENCE, PRUNE, EVICTLOG}
-use Rattle.kinds.specs.Kinds.{EVICTCELL, EVICTWORDS}
+use Rattle.kinds.specs.declared.Kind.{Kind}
+use Rattle.kinds.specs.declared.Kind.TheVariants.{Load as LOAD, Log as LOG, Store as STORE, Acquire as ACQUIRE, LogRel as LOGREL}
+use Rattle.kinds.specs.declared.Kind.TheVariants.{Release as RELEASE, Flush as FLUSH, FlushLog as FLUSHLOG, Fence as FENCE}
+use Rattle.kinds.specs.declared.Kind.TheVariants.{Prune as PRUNE, EvictLog as EVICTLOG, EvictCell as EVICTCELL, EvictWords as EVICTWORDS}
 use Rattle.machine.specs.Runs.{Step, after}
-use Rattle.machine.specs.declared.Machine.{Machine}
+use Rattle.machine.specs.State.{Machine}
 use Rattle.machine.proofs.Beginnings.{machine_with, AllIdle, fresh_logs, fresh-all, on-start}
 use Rattle.machine.proofs.LogCases.{log_cases}
 use Rattle.machine.proofs.StepLaws.{tests_of, after-keeps}

@@ -1,55 +1,35 @@
 -- A step either refuses and changes nothing, or every test of its kind failed and its effect happened.
+use Rattle.std.specs.Prelude.{Err, Option, None, Some}
 use Prim.Native.Nat.{ℕ}
 use mathlib.Core.Path.{◌≡◌, refl, sym, ◌∙◌}
 use mathlib.Core.Bool.{true, false, true≢false}
 use mathlib.Core.List.{List, [], ◌∷◌, ◌++◌}
-use mathlib.Core.Option.{Option, none, some}
 use Rattle.answer.specs.Answer.{is_accepted}
 use Rattle.answer.specs.Refusals.{Test}
-use Rattle.answer.specs.declared.Answer.{Answer}
-use Rattle.answer.specs.declared.Answer.TheVariants.{NoSuchKind}
-use Rattle.answer.proofs.RefusalLaws.{AllFail, AllRefuse, all_refuse_append, unless-cases}
-use Rattle.kinds.proofs.Inputs.{input_refuses}
-use Rattle.append.specs.Append.{room_tests}
-use Rattle.thread_log.specs.Entries.{evict_slot_tests}
-use Rattle.accessing.proofs.LogLaws.{log-refuses}
+use Rattle.answer.specs.declared.Refusal.{Refusal}
+use Rattle.answer.specs.declared.Refusal.TheVariants.{NoSuchKind}
+use Rattle.answer.proofs.RefusalLaws.{AllFail, unless-cases}
 use Rattle.machine.specs.Effects.{load_effect, first_log_effect, store_effect, acquire_effect, log_release_effect, release_effect}
 use Rattle.machine.specs.Effects.{flush_effect, flush_log_effect, fence_effect, prune_effect, evict_log_effect, evict_cell_effect}
 use Rattle.machine.specs.Effects.{evict_words_effect, effect}
-use Rattle.machine.specs.Holds.{log_of, clock_of}
-use Rattle.kinds.specs.Kinds.{Kind, LOAD, LOG, STORE, ACQUIRE, LOGREL, RELEASE, FLUSH, FLUSHLOG, FENCE, PRUNE, EVICTLOG}
-use Rattle.kinds.specs.Kinds.{EVICTCELL, EVICTWORDS, kind_of, input_tests}
-use Rattle.machine.specs.Refusals.{load_tests, log_tests, store_tests, acquire_tests, log_release_tests, state_tests}
-use Rattle.locks.specs.LockSteps.{release_tests}
-use Rattle.prune.specs.Pruning.{prune_tests}
+use Rattle.kinds.specs.Kinds.{kind_of, input_tests}
+use Rattle.kinds.specs.declared.Kind.{Kind}
+use Rattle.kinds.specs.declared.Kind.TheVariants.{Load as LOAD, Log as LOG, Store as STORE, Acquire as ACQUIRE, LogRel as LOGREL}
+use Rattle.kinds.specs.declared.Kind.TheVariants.{Release as RELEASE, Flush as FLUSH, FlushLog as FLUSHLOG, Fence as FENCE}
+use Rattle.kinds.specs.declared.Kind.TheVariants.{Prune as PRUNE, EvictLog as EVICTLOG, EvictCell as EVICTCELL, EvictWords as EVICTWORDS}
+use Rattle.machine.specs.Refusals.{state_tests}
 use Rattle.machine.specs.Runs.{Step, step_with, after}
 use Rattle.machine.specs.Steps.{refused, step_of_kind, step_of_option, step_of}
-use Rattle.machine.specs.declared.Machine.{Machine}
+use Rattle.machine.specs.State.{Machine}
 use Rattle.machine.specs.declared.Stepped.{Stepped}
 use Rattle.machine.proofs.LogCases.{log_cases}
-
-pub state_refuses : (machine : Machine) (kind : Kind) (thread place : ℕ) → AllRefuse (state_tests machine kind thread place)
-unfolding state_tests load_tests log_tests store_tests acquire_tests log_release_tests release_tests prune_tests room_tests evict_slot_tests
-state_refuses machine LOAD thread place = (refl, tt)
-state_refuses machine LOG thread place = log-refuses (log_of machine thread) machine.accesses (clock_of machine thread) place
-state_refuses machine STORE thread place = (refl, (refl, (refl, tt)))
-state_refuses machine ACQUIRE thread place = (refl, (refl, (refl, (refl, tt))))
-state_refuses machine LOGREL thread place = (refl, (refl, (refl, (refl, tt))))
-state_refuses machine RELEASE thread place = (refl, (refl, tt))
-state_refuses machine FLUSH thread place = tt
-state_refuses machine FLUSHLOG thread place = tt
-state_refuses machine FENCE thread place = tt
-state_refuses machine PRUNE thread place = (refl, (refl, (refl, (refl, tt))))
-state_refuses machine EVICTLOG thread place = (refl, tt)
-state_refuses machine EVICTCELL thread place = tt
-state_refuses machine EVICTWORDS thread place = (refl, tt)
 
 -- the tests of a step: of the input, then of the state
 abbrev pub tests_of : Machine → Kind → ℕ → ℕ → ℕ → List Test
 tests_of machine kind thread place value = input_tests kind thread place value ++ state_tests machine kind thread place
 
 module _ (machine : Machine) (Q : Stepped → Type 0)
-    (on_refusal : (answer : Answer) → is_accepted answer ≡ false → Q (refused machine answer)) where
+    (on_refusal : (refusal : Refusal) → Q (refused machine (Err refusal))) where
   kind-cases : (kind : Kind) (thread place value : ℕ)
       → (AllFail (tests_of machine kind thread place value) → Q (effect machine kind thread place value))
       → Q (step_of_kind machine kind thread place value)
@@ -60,23 +40,18 @@ module _ (machine : Machine) (Q : Stepped → Type 0)
       (refused machine)
       (tests_of machine kind thread place value)
       (effect machine kind thread place value)
-      (all_refuse_append
-      (input_tests kind thread place value)
-      (state_tests machine kind thread place)
-      (input_refuses kind thread place value)
-      (state_refuses machine kind thread place))
       on_refusal
       on_effect
 
   option_cases : (thread place value : ℕ) (found : Option Kind)
-      → ((kind : Kind) → found ≡ some kind → AllFail (tests_of machine kind thread place value) → Q (effect machine kind thread place value))
+      → ((kind : Kind) → found ≡ Some kind → AllFail (tests_of machine kind thread place value) → Q (effect machine kind thread place value))
       → Q (step_of_option machine found thread place value)
-  option_cases thread place value none on_effect = on_refusal NoSuchKind refl
-  option_cases thread place value (some kind) on_effect = kind-cases kind thread place value (on_effect kind refl)
+  option_cases thread place value None on_effect = on_refusal NoSuchKind
+  option_cases thread place value (Some kind) on_effect = kind-cases kind thread place value (on_effect kind refl)
 
   -- what holds of every refusal, and of each effect whose tests all failed, holds of the step
   pub step-cases : (number thread place value : ℕ)
-      → ((kind : Kind) → kind_of number ≡ some kind → AllFail (tests_of machine kind thread place value)
+      → ((kind : Kind) → kind_of number ≡ Some kind → AllFail (tests_of machine kind thread place value)
       → Q (effect machine kind thread place value))
       → Q (step_of machine number thread place value)
   unfolding step_of
@@ -109,7 +84,7 @@ refused-stays machine number thread place value =
     step-cases
     machine
     (λ stepped. is_accepted stepped.answer ≡ false → stepped.machine ≡ machine)
-    (λ answer is_refusal refuses. refl)
+    (λ refusal refuses. refl)
     number
     thread
     place
@@ -125,7 +100,7 @@ step_keeps P machine holds on_effect number thread place value =
     step-cases
     machine
     (λ stepped. P stepped.machine)
-    (λ answer is_refusal. holds)
+    (λ refusal. holds)
     number
     thread
     place

@@ -3,7 +3,7 @@ use Rattle.std.specs.Prelude.{ℕ, Bool, not, get_or}
 use Rattle.clocks.specs.Clocks.{clock_at, is_known}
 use Rattle.accesses.specs.Accesses.{has_unknown}
 use Rattle.machine.specs.Holds.{clock_of}
-use Rattle.machine.specs.declared.Machine.{Machine}
+use Rattle.machine.specs.State.{Machine}
 
 -- the stamp of an access that the thread takes next
 abbrev pub stamp_now : Machine → ℕ → ℕ

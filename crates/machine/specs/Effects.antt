@@ -1,29 +1,29 @@
 -- "Steps": what each kind does once no refusal holds, and the number that it answers.
-use Rattle.std.specs.Prelude.{ℕ, ◌+◌, ◌-◌}
-use Rattle.answer.specs.declared.Answer.TheVariants.{Accepted}
+use Rattle.std.specs.Prelude.{ℕ, ◌+◌, ◌-◌, Option, None, Some, Ok}
 use Rattle.cache.specs.Cache.{cached_at, pending_count, store_of, flush_of, fence_of, evict_cell_of}
 use Rattle.undo.specs.Entering.{live_event, enter_of, end_release_of}
 use Rattle.tail.specs.Tail.{unfenced}
 use Rattle.thread_log.specs.Entries.{flush_log_of, fence_log_of, evict_slot_of, evict_words_of, drop_of}
 use Rattle.undo.specs.Regions.{oldest_region, logged_of}
+use Rattle.ring.specs.declared.Lsn.{Lsn}
 use Rattle.event.specs.declared.Event.{Event}
 use Rattle.event.specs.declared.Event.TheVariants.{Store, Acquire, Release}
-use Rattle.undo.specs.declared.Found.{Found}
-use Rattle.undo.specs.declared.Found.TheVariants.{Nowhere, At}
 use Rattle.clocks.specs.Clocks.{join_of, raised_of}
 use Rattle.accesses.specs.Accesses.{loaded_of, logged_cell_of}
 use Rattle.machine.specs.Clocks.{stamp_now}
 use Rattle.machine.specs.Holds.{log_of, lock_of, clock_of, lock_clock_of, with_cache, with_log, with_accesses, with_lock, with_clock}
 use Rattle.machine.specs.Holds.{with_lock_clock, with_locks}
 use Rattle.locks.specs.Locks.{taken_by, freed_of, pruned_locks}
-use Rattle.kinds.specs.Kinds.{Kind, LOAD, LOG, STORE, ACQUIRE, LOGREL, RELEASE, FLUSH, FLUSHLOG, FENCE, PRUNE, EVICTLOG}
-use Rattle.kinds.specs.Kinds.{EVICTCELL, EVICTWORDS}
-use Rattle.machine.specs.declared.Machine.{Machine}
+use Rattle.kinds.specs.declared.Kind.{Kind}
+use Rattle.kinds.specs.declared.Kind.TheVariants.{Load as LOAD, Log as LOG, Store as STORE, Acquire as ACQUIRE, LogRel as LOGREL}
+use Rattle.kinds.specs.declared.Kind.TheVariants.{Release as RELEASE, Flush as FLUSH, FlushLog as FLUSHLOG, Fence as FENCE}
+use Rattle.kinds.specs.declared.Kind.TheVariants.{Prune as PRUNE, EvictLog as EVICTLOG, EvictCell as EVICTCELL, EvictWords as EVICTWORDS}
+use Rattle.machine.specs.State.{Machine}
 use Rattle.machine.specs.declared.Stepped.{Stepped}
 
 -- "Answer 0 is acceptance, with the number named here, else 0."
 abbrev pub accepted : ℕ → Machine → Stepped
-accepted given machine = record { answer = Accepted given; machine = machine }
+accepted given machine = record { answer = Ok given; machine = machine }
 
 -- "LOAD cell: answers its seen content."
 unfoldable pub load_effect : Machine → ℕ → ℕ → Stepped
@@ -43,9 +43,9 @@ first_log_effect machine thread cell =
 
 -- LOG, by the cell's entry in the current region. Document 02, of a LOG where there is one: "It answers the first entry's rank and appends
 -- nothing". The machine stays as it is.
-abbrev pub log_effect_at : Found → Machine → ℕ → ℕ → Stepped
-log_effect_at Nowhere machine thread cell = first_log_effect machine thread cell
-log_effect_at (At number) machine thread cell = accepted number.0 machine
+abbrev pub log_effect_at : Option Lsn → Machine → ℕ → ℕ → Stepped
+log_effect_at None machine thread cell = first_log_effect machine thread cell
+log_effect_at (Some number) machine thread cell = accepted number.0 machine
 
 unfoldable pub log_effect : Machine → ℕ → ℕ → Stepped
 log_effect machine thread cell = log_effect_at (logged_of (log_of machine thread) cell) machine thread cell

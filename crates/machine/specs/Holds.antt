@@ -1,19 +1,20 @@
 -- "What the machine holds": its parts by number, the same machine with another part, and the machine of a start call.
+use Rattle.std.specs.Prelude.{Ok, Err}
+use Rattle.std.specs.Prelude.{None}
 use Rattle.std.specs.Prelude.{ℕ, ◌*◌, cond, List, [], length, get_or, set, replicate, eqb}
 use Rattle.sizes.specs.Sizes.{thread_count, lock_count}
-use Rattle.answer.specs.declared.Answer.TheVariants.{Accepted, WrongLength}
+use Rattle.answer.specs.declared.Refusal.TheVariants.{WrongLength}
 use Rattle.cache.specs.Cache.{cell_count, cache_of}
 use Rattle.cache.specs.declared.Cache.{Cache}
 use Rattle.ring.specs.Ring.{lsn}
 use Rattle.thread_log.specs.Entries.{fresh_log}
 use Rattle.thread_log.specs.declared.Log.{Log}
-use Rattle.tail.specs.declared.Releasing.TheVariants.{Nothing}
 use Rattle.accesses.specs.declared.Accesses.{Accesses}
 use Rattle.clocks.specs.declared.Clock.{Clock}
 use Rattle.locks.specs.declared.Lock.{Lock}
 use Rattle.clocks.specs.Clocks.{no_clock, start_clocks}
 use Rattle.locks.specs.Locks.{no_lock}
-use Rattle.machine.specs.declared.Machine.{Machine}
+use Rattle.machine.specs.State.{Machine}
 use Rattle.machine.specs.declared.Stepped.{Stepped}
 
 -- what stands at a number past the end of the array of logs: never read by a step whose fields are in range
@@ -22,7 +23,7 @@ no_log = record {
   cached = [];
   persisted = [];
   head = lsn 0;
-  tail = record { next = lsn 0; durable = lsn 0; flushed = lsn 0; releasing = Nothing };
+  tail = record { next = lsn 0; durable = lsn 0; flushed = lsn 0; releasing = None };
 }
 
 -- the machine's parts by number
@@ -121,5 +122,5 @@ fresh_machine cells = record {
 unfoldable pub start_of : List ℕ → Stepped
 start_of words =
     cond (eqb (length words) cell_count)
-    (record { answer = Accepted 0; machine = fresh_machine words })
-    (record { answer = WrongLength; machine = fresh_machine (replicate cell_count 0) })
+    (record { answer = Ok 0; machine = fresh_machine words })
+    (record { answer = Err WrongLength; machine = fresh_machine (replicate cell_count 0) })

@@ -3,14 +3,16 @@ use Rattle.std.specs.Prelude.{ℕ, List, [], ◌++◌}
 use Rattle.answer.specs.Refusals.{Test}
 use Rattle.thread_log.specs.Entries.{append_tests, evict_slot_tests}
 use Rattle.undo.specs.Regions.{store_tests_on}
-use Rattle.kinds.specs.Kinds.{Kind, LOAD, LOG, STORE, ACQUIRE, LOGREL, RELEASE, FLUSH, FLUSHLOG, FENCE, PRUNE, EVICTLOG}
-use Rattle.kinds.specs.Kinds.{EVICTCELL, EVICTWORDS}
+use Rattle.kinds.specs.declared.Kind.{Kind}
+use Rattle.kinds.specs.declared.Kind.TheVariants.{Load as LOAD, Log as LOG, Store as STORE, Acquire as ACQUIRE, LogRel as LOGREL}
+use Rattle.kinds.specs.declared.Kind.TheVariants.{Release as RELEASE, Flush as FLUSH, FlushLog as FLUSHLOG, Fence as FENCE}
+use Rattle.kinds.specs.declared.Kind.TheVariants.{Prune as PRUNE, EvictLog as EVICTLOG, EvictCell as EVICTCELL, EvictWords as EVICTWORDS}
 use Rattle.accessing.specs.Loads.{load_tests_on}
 use Rattle.accessing.specs.Logs.{log_tests_on}
 use Rattle.locks.specs.LockSteps.{acquire_tests_on, log_release_tests_on, release_tests}
 use Rattle.prune.specs.Pruning.{prune_tests}
 use Rattle.machine.specs.Holds.{log_of, lock_of, clock_of}
-use Rattle.machine.specs.declared.Machine.{Machine}
+use Rattle.machine.specs.State.{Machine}
 
 -- LOAD 8
 unfoldable pub load_tests : Machine → ℕ → ℕ → List Test

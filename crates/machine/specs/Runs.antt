@@ -1,11 +1,11 @@
 -- Lists of steps: the machine after them, their answers, and which machines the start call and steps lead to.
 use Rattle.std.specs.Prelude.{ℕ, ◌+◌, ◌*◌, ◌≡◌, List, [], ◌∷◌}
 use Rattle.answer.specs.Lists.{tab}
-use Rattle.answer.specs.declared.Answer.{Answer}
+use Rattle.answer.specs.Answer.{Answer}
 use Rattle.cache.specs.Cache.{cell_count}
 use Rattle.machine.specs.Holds.{start_of}
 use Rattle.machine.specs.Steps.{step_of}
-use Rattle.machine.specs.declared.Machine.{Machine}
+use Rattle.machine.specs.State.{Machine}
 use Rattle.machine.specs.declared.Stepped.{Stepped}
 
 -- "A step is kind, thread, place, value." Any words may stand in it.

@@ -1,7 +1,5 @@
 -- The names of the kinds of step, as a listing writes them, and the kind of a name.
-use Rattle.std.specs.Prelude.{ℕ, suc, cond, List, [], ◌∷◌}
-use Rattle.number.specs.declared.Field.{Field}
-use Rattle.number.specs.declared.Field.TheVariants.{Number, Nothing}
+use Rattle.std.specs.Prelude.{ℕ, suc, cond, List, [], ◌∷◌, Option, Some, None}
 use Rattle.names.specs.Text.{ascii, same_text}
 
 -- the names of the kinds, and that of the retired kind 11: a name's place is its number
@@ -12,9 +10,9 @@ names =
     ascii "EVICTCELL" ∷ ascii "EVICTWORDS" ∷ []
 
 -- the number of the name that the text is, where the first name has this number
-unfoldable pub kind_from : ℕ → List (List ℕ) → List ℕ → Field
-kind_from number [] text = Nothing
-kind_from number (name ∷ names) text = cond (same_text text name) (Number number) (kind_from (suc number) names text)
+unfoldable pub kind_from : ℕ → List (List ℕ) → List ℕ → Option ℕ
+kind_from number [] text = None
+kind_from number (name ∷ names) text = cond (same_text text name) (Some number) (kind_from (suc number) names text)
 
-unfoldable pub kind_named : List ℕ → Field
+unfoldable pub kind_named : List ℕ → Option ℕ
 kind_named text = kind_from 1 names text

@@ -1,75 +1,51 @@
 -- Laws of the number that a text is, one digit at a time from the front.
 use Prim.Native.Nat.{ℕ, ◌+◌, ◌-◌, ◌*◌, ◌^◌, ◌≤◌, ◌<◌}
 use mathlib.Core.Path.{◌≡◌, refl}
+use mathlib.Core.Bool.{Bool, true, false, cond, ◌&&◌}
 use mathlib.Core.List.{List, [], ◌∷◌}
-use native.Mathlib.Numerals.{add-one}
 use native.Mathlib.Omega.{arith}
-use borrow.Author.Tests.{eq-eqb, ne_eqb, le-leb, lt-leb, lt-ltb, le-ltb}
+use borrow.Author.Tests.{lt-ltb}
+use lib.Dec.{eqb, ltb}
 use lib.ListN.{length, get_or, drop, drop_of_length-le}
-use lib.Seq.{drop-cons}
-use Rattle.number.specs.Decimal.{digits_after, number_in}
-use Rattle.number.specs.declared.Field.TheVariants.{Number, Nothing}
-
--- what is left from a place on begins with the byte there
-pub drop_first : (text : List ℕ) (i : ℕ) → i < length text → drop i text ≡ get_or text i 0 ∷ drop (i + 1) text
-drop_first text i below = rw (add-one, drop-cons text i 0)
+use Rattle.std.proofs.lemmas.Bool.Decides.{nat_tests}
+use Rattle.std.proofs.lemmas.List.{drop_more}
+use Rattle.std.specs.Prelude.{Some, None}
+use Rattle.number.specs.Decimal.{digits_after, number_in, is_digit}
 
 -- an empty text is no number
-pub no-digits : (text : List ℕ) → length text ≡ 0 → number_in text ≡ Nothing
+pub no_digits : (text : List ℕ) → length text ≡ 0 → number_in text ≡ None
 unfolding number_in
-no-digits [] empty = refl
-no-digits (byte ∷ text) empty = absurd (omega arith)
+no_digits [] empty = refl
+no_digits (byte ∷ text) empty = absurd (omega arith)
 
--- a text of more than one byte that begins with "0" is no number
-pub leading_zero : (text : List ℕ) → 1 < length text → get_or text 0 0 ≡ 48 → number_in text ≡ Nothing
+-- a text of more than one byte that begins with "0" is no number, and any other is read digit by digit
+pub number_starts : (text : List ℕ) → 0 < length text
+    → number_in text ≡ cond (eqb (get_or text 0 0) 48 && ltb 1 (length text)) None (digits_after 0 text)
 unfolding number_in
-leading_zero [] longer zero-first = refl
-leading_zero (byte ∷ []) longer zero-first = absurd (omega arith)
-leading_zero (first ∷ second ∷ text) longer zero-first = rw (eq-eqb first 48 zero-first)
+number_starts [] some = absurd (omega arith)
+number_starts (byte ∷ []) some = by_byte (eqb byte 48)
+  where
+    by_byte : (zero_leads : Bool) → digits_after 0 (byte ∷ []) ≡ cond (zero_leads && false) None (digits_after 0 (byte ∷ []))
+    by_byte true = refl
+    by_byte false = refl
+number_starts (first ∷ second ∷ text) some = rw (lt-ltb 1 (length (first ∷ second ∷ text)) (omega arith)) (by_byte (eqb first 48))
+  where
+    by_byte : (zero_leads : Bool) → cond zero_leads None (digits_after 0 (first ∷ second ∷ text))
+        ≡ cond (zero_leads && true) None (digits_after 0 (first ∷ second ∷ text))
+    by_byte true = refl
+    by_byte false = refl
 
--- a text that is not empty, and that does not begin with "0" unless it is "0", is read digit by digit
-pub number-starts : (text : List ℕ) → 0 < length text → (1 < length text → get_or text 0 0 ≡ 48 → ⊥) → number_in text ≡ digits_after 0 text
-unfolding number_in
-number-starts [] some first-not = absurd (omega arith)
-number-starts (byte ∷ []) some first-not = refl
-number-starts (first ∷ second ∷ text) some first-not = rw (ne_eqb first 48 (first-not (omega arith)))
-
-module _ (number : ℕ) (text : List ℕ) (i : ℕ) (within : i < length text) where
-  -- where one more digit is read, the number goes on with it
-  pub digits-on : 48 ≤ get_or text i 0 → get_or text i 0 < 58 → number * 10 + (get_or text i 0 - 48) < 2 ^ 64
-      → digits_after number (drop i text) ≡ digits_after (number * 10 + (get_or text i 0 - 48)) (drop (i + 1) text)
-  unfolding digits_after
-  digits-on low high small =
-      rw (
-        drop_first text i within,
-        le-leb 48 (get_or text i 0) low,
-        lt-ltb (get_or text i 0) 58 high,
-        lt-ltb (number * 10 + (get_or text i 0 - 48)) (2 ^ 64) small,
-      )
-
-  -- a text with a byte below "0" is no number
-  pub digits_low : get_or text i 0 < 48 → digits_after number (drop i text) ≡ Nothing
-  unfolding digits_after
-  digits_low low = rw (drop_first text i within, lt-leb 48 (get_or text i 0) low)
-
-  -- a text with a byte above "9" is no number
-  pub digits-high : 48 ≤ get_or text i 0 → 58 ≤ get_or text i 0 → digits_after number (drop i text) ≡ Nothing
-  unfolding digits_after
-  digits-high low high = rw (drop_first text i within, le-leb 48 (get_or text i 0) low, le-ltb (get_or text i 0) 58 high)
-
-  -- a text with a digit that takes the number past the largest is no number
-  pub digits-past : 48 ≤ get_or text i 0 → get_or text i 0 < 58 → 2 ^ 64 ≤ number * 10 + (get_or text i 0 - 48) →
-      digits_after number (drop i text) ≡ Nothing
-  unfolding digits_after
-  digits-past low high past =
-      rw (
-        drop_first text i within,
-        le-leb 48 (get_or text i 0) low,
-        lt-ltb (get_or text i 0) 58 high,
-        le-ltb (number * 10 + (get_or text i 0 - 48)) (2 ^ 64) past,
-      )
+-- one more byte is read: it goes on with the number, or ends it
+pub digits_on : (number : ℕ) (text : List ℕ) (i : ℕ) → i < length text → digits_after number (drop i text)
+    ≡ cond (is_digit (get_or text i 0) && ltb (number * 10 + (get_or text i 0 - 48)) (2 ^ 64))
+    (digits_after (number * 10 + (get_or text i 0 - 48)) (drop (i + 1) text)) None
+unfolding digits_after
+digits_on number text i within = rw (drop_more text i 0 within)
 
 -- where no digit is left, the number is the one read so far
-pub digits_end : (number : ℕ) (text : List ℕ) (i : ℕ) → length text ≤ i → digits_after number (drop i text) ≡ Number number
+pub digits_end : (number : ℕ) (text : List ℕ) (i : ℕ) → length text ≤ i → digits_after number (drop i text) ≡ Some number
 unfolding digits_after
 digits_end number text i past = rw (drop_of_length-le text past)
+
+-- what is read of a text, from its start to its end
+pub ruleset reading = (no_digits, number_starts, digits_on, digits_end, nat_tests)

@@ -1,24 +1,22 @@
 -- A number in decimal: the number that a text is, and the text of a number.
-use Rattle.std.specs.Prelude.{ℕ, zero, suc, ◌+◌, ◌-◌, ◌*◌, ◌/◌, ◌%◌, ◌^◌, Bool, cond, ◌&&◌, List, [], ◌∷◌, ◌++◌, eqb, leb, ltb}
-use Rattle.number.specs.declared.Field.{Field}
-use Rattle.number.specs.declared.Field.TheVariants.{Number, Nothing}
+use Rattle.std.specs.Prelude.{ℕ, zero, suc, ◌+◌, ◌-◌, ◌*◌, ◌/◌, ◌%◌, ◌^◌, Bool, cond, ◌&&◌, List, [], ◌∷◌, ◌++◌, eqb, leb, ltb, Option, Some, None}
 
 -- "0" to "9"
 abbrev pub is_digit : ℕ → Bool
 is_digit byte = leb 48 byte && ltb byte 58
 
 -- the number that goes on with these digits; nothing past 2^64
-unfoldable pub digits_after : ℕ → List ℕ → Field
-digits_after number [] = Number number
+unfoldable pub digits_after : ℕ → List ℕ → Option ℕ
+digits_after number [] = Some number
 digits_after number (byte ∷ text) =
     let next = number * 10 + (byte - 48) in
-    cond (is_digit byte && ltb next (2 ^ 64)) (digits_after next text) Nothing
+    cond (is_digit byte && ltb next (2 ^ 64)) (digits_after next text) None
 
 -- "decimal below 2^64 without leading zeros"
-unfoldable pub number_in : List ℕ → Field
-number_in [] = Nothing
+unfoldable pub number_in : List ℕ → Option ℕ
+number_in [] = None
 number_in (byte ∷ []) = digits_after 0 (byte ∷ [])
-number_in (first ∷ second ∷ text) = cond (eqb first 48) Nothing (digits_after 0 (first ∷ second ∷ text))
+number_in (first ∷ second ∷ text) = cond (eqb first 48) None (digits_after 0 (first ∷ second ∷ text))
 
 -- the fewest digits, from this many on and at most so many more, that hold the number
 unfoldable pub places_from : ℕ → ℕ → ℕ → ℕ

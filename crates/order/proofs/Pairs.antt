@@ -1,29 +1,27 @@
--- Pairs as words: the entries that the words from a place on name, as a loop reads them, and the words of a list of entries.
-use Prim.Native.Nat.{ℕ, zero, suc, ◌*◌, ◌≤◌, ◌<◌}
+-- Pairs as words: the entries that words name, two by two, and the words of a list of entries.
+use Prim.Native.Nat.{ℕ, ◌*◌, ◌<◌}
 use mathlib.Core.Path.{◌≡◌, refl, ap}
-use mathlib.Core.List.{List, [], ◌∷◌}
+use mathlib.Core.List.{List, [], ◌∷◌, ◌++◌}
 use native.Mathlib.Omega.{arith}
-use lib.ListN.{length, get_or, drop}
+use lib.ListN.{length, get_or}
 use Rattle.orders.specs.Orders.{Name, name}
 use Rattle.order.specs.Check.{pairs_of}
 
--- two words from this place on name an entry, and those after them the rest
-pub pairs_more : (words : List ℕ) (at : ℕ) → suc at < length words →
-    pairs_of (drop at words) ≡ name (get_or words at 0) (get_or words (suc at) 0) ∷ pairs_of (drop (suc (suc at)) words)
+-- two words name an entry, and those after them the rest
+pub pairs_pair : (pair later : List ℕ) → length pair ≡ 2 →
+    pairs_of (pair ++ later) ≡ name (get_or pair 0 0) (get_or pair 1 0) ∷ pairs_of later
 unfolding pairs_of
-pairs_more [] at more = absurd (omega arith)
-pairs_more (thread ∷ []) at more = absurd (omega arith)
-pairs_more (thread ∷ lsn ∷ words) zero more = refl
-pairs_more (thread ∷ lsn ∷ words) (suc at) more = pairs_more (lsn ∷ words) at (omega arith)
+pairs_pair [] later two = absurd (omega arith)
+pairs_pair (thread ∷ []) later two = absurd (omega arith)
+pairs_pair (thread ∷ lsn ∷ []) later two = refl
+pairs_pair (thread ∷ lsn ∷ more ∷ words) later two = absurd (omega arith)
 
 -- fewer than two name nothing
-pub pairs_end : (words : List ℕ) (at : ℕ) → length words ≤ suc at → pairs_of (drop at words) ≡ []
+pub pairs_end : (words : List ℕ) → length words < 2 → pairs_of words ≡ []
 unfolding pairs_of
-pairs_end [] zero end = refl
-pairs_end [] (suc at) end = refl
-pairs_end (thread ∷ []) zero end = refl
-pairs_end (thread ∷ lsn ∷ words) zero end = absurd (omega arith)
-pairs_end (thread ∷ words) (suc at) end = pairs_end words at (omega arith)
+pairs_end [] few = refl
+pairs_end (thread ∷ []) few = refl
+pairs_end (thread ∷ lsn ∷ words) few = absurd (omega arith)
 
 -- the words of a list of entries
 unfoldable pub words_of : List Name → List ℕ

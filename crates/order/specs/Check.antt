@@ -1,11 +1,10 @@
 -- Marking a claimed undo order. Document 02: "Add a checker for an image and a list of at most 256 pairs, thread and rank, as words."
-use Rattle.std.specs.Prelude.{ℕ, suc, ◌-◌, ◌%◌, Bool, cond, ◌||◌, List, [], ◌∷◌, ◌++◌, length, set, eqb, ltb}
-use Rattle.std.proofs.Math.Option.{Option, none, some}
+use Rattle.std.specs.Prelude.{ℕ, suc, ◌-◌, ◌%◌, Bool, cond, ◌||◌, List, [], ◌∷◌, ◌++◌, length, set, eqb, ltb, Ok, Err, Option, None, Some}
 use Rattle.sizes.specs.Sizes.{thread_count}
 use Rattle.answer.specs.Lists.{some_below}
 use Rattle.answer.specs.Refusals.{Test, ◌⇒◌, unless}
-use Rattle.answer.specs.declared.Answer.{Answer}
-use Rattle.answer.specs.declared.Answer.TheVariants.{Accepted, NotPairs, NotAnOrder}
+use Rattle.answer.specs.Answer.{Answer}
+use Rattle.answer.specs.declared.Refusal.TheVariants.{NotPairs, NotAnOrder}
 use Rattle.image.specs.Stored.{StoredLog, stored_logs, present_entries}
 use Rattle.image.specs.Tests.{image_tests}
 use Rattle.undoing.specs.Undo.{left_of}
@@ -30,9 +29,9 @@ some_left left = some_below thread_count (λ thread. ltb 0 (left_of left thread)
 -- "A pair is bad if, the pairs before it being taken, its entry" may not be: "the place .. of its first bad pair, or the count of pairs
 -- where entries are missing", and none where neither is so. The first of these pairs has this place
 unfoldable pub bad_place : List StoredLog → List ℕ → ℕ → List Name → Option ℕ
-bad_place logs left place [] = cond (some_left left) (some place) none
+bad_place logs left place [] = cond (some_left left) (Some place) None
 bad_place logs left place (entry ∷ order) =
-    cond (may_take_name logs left entry) (bad_place logs (left_without left entry) (suc place) order) (some place)
+    cond (may_take_name logs left entry) (bad_place logs (left_without left entry) (suc place) order) (Some place)
 
 -- an image or a list that can't be used has no bad pair, and 0 for its place
 abbrev pub refused : Answer → Checked
@@ -40,16 +39,16 @@ refused answer = record { answer = answer; place = 0 }
 
 -- "an accepted one with 0"
 abbrev pub accepted : Checked
-accepted = record { answer = Accepted 0; place = 0 }
+accepted = record { answer = Ok 0; place = 0 }
 
 -- "A refused list is answered with the place, from 0"; "27: the list is not such an order"
 abbrev pub not_an_order : ℕ → Checked
-not_an_order place = record { answer = NotAnOrder; place = place }
+not_an_order place = record { answer = Err NotAnOrder; place = place }
 
 -- what a list is answered by the place that it has, or by having none
 abbrev pub marked_by : Option ℕ → Checked
-marked_by none = accepted
-marked_by (some place) = not_an_order place
+marked_by None = accepted
+marked_by (Some place) = not_an_order place
 
 -- "at most 256 pairs", two words each
 abbrev pub most_words : ℕ

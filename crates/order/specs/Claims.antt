@@ -1,8 +1,8 @@
 -- What is claimed of the checker, in the words of orders by places: which lists it accepts, that there is one wherever recovery accepts,
 -- and what is so of the place that it gives. What an accepted list undoes to is claimed where machines are (`atomicity/specs/Undoes.antt`).
+use Rattle.std.specs.Prelude.{Ok}
 use Rattle.std.specs.Prelude.{ℕ, ◌≤◌, ◌<◌, ◌≡◌, true, false, List, [], ◌∷◌, length, take}
 use Rattle.answer.specs.Refusals.{first_refusal}
-use Rattle.answer.specs.declared.Answer.TheVariants.{Accepted}
 use Rattle.image.specs.Stored.{StoredLog, stored_logs, present_entries}
 use Rattle.recovery.specs.Recover.{recover_of}
 use Rattle.orders.specs.Orders.{Name, name_at, IsOrder}
@@ -11,9 +11,9 @@ use Rattle.order.specs.Check.{pairs_of, left_without, some_left, accepted, not_a
 
 -- "It accepts exactly the lists that name each present entry once and keep L8's order."
 pub record AcceptsOrders (image words : List ℕ) : Type 0 where
-  pub is_order : (check_of image words).answer ≡ Accepted 0 → IsOrder image (pairs_of words)
+  pub is_order : (check_of image words).answer ≡ Ok 0 → IsOrder image (pairs_of words)
   -- where neither the image nor the list is refused
-  pub is_accepted : first_refusal (check_tests image words) ≡ Accepted 0 → IsOrder image (pairs_of words) → check_of image words ≡ accepted
+  pub is_accepted : first_refusal (check_tests image words) ≡ Ok 0 → IsOrder image (pairs_of words) → check_of image words ≡ accepted
 
 abbrev pub Accepts : Type 0
 Accepts = (image words : List ℕ) → AcceptsOrders image words
@@ -21,7 +21,7 @@ Accepts = (image words : List ℕ) → AcceptsOrders image words
 -- "Every image recovery accepts has a list that the checker accepts."
 abbrev pub HasAList : Type 0
 HasAList =
-    (image buffer : List ℕ) → (recover_of image buffer).answer ≡ Accepted 0 →
+    (image buffer : List ℕ) → (recover_of image buffer).answer ≡ Ok 0 →
     (words : List ℕ) × (length words ≤ most_words) × (check_of image words ≡ accepted)
 
 -- how many entries each thread has left once those of a list are taken

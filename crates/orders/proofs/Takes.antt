@@ -4,7 +4,7 @@ use Prim.Native.Nat.{ℕ, zero, suc, ◌+◌, ◌<◌}
 use mathlib.Core.Path.{◌≡◌, refl}
 use mathlib.Core.Bool.{true}
 use mathlib.Core.List.{List, [], ◌∷◌}
-use mathlib.Core.Option.{Option, none, some}
+use Rattle.std.specs.Prelude.{Option, None, Some}
 use native.Mathlib.Omega.{arith}
 use Rattle.sizes.specs.Sizes.{thread_count}
 use Rattle.image.specs.Stored.{StoredLog, stored_log}
@@ -34,8 +34,8 @@ many_takes logs (suc count) undo =
     by-lowest : (found : Option ℕ) → lowest_from logs undo.left 0 thread_count ≡ found →
         ((after : Undo) → (order : List Name) × Takes logs after order (take_many count logs after)) →
         (order : List Name) × Takes logs undo order (take_many count logs (take_from logs undo found))
-    by-lowest none none_found later = later undo
-    by-lowest (some thread) is_found later =
+    by-lowest None none_found later = later undo
+    by-lowest (Some thread) is_found later =
         let found = lowest-may logs undo.left 0 thread_count thread is_found in
         let rest = later (take_last logs undo thread) in (
           name_of logs thread (last_of undo.left thread) ∷ rest.0,

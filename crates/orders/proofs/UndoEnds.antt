@@ -5,7 +5,8 @@ use mathlib.Core.Bool.{Bool, true, false, cond, true≢false}
 use mathlib.Core.Logic.Dec
 use mathlib.Core.Logic.{by_cases}
 use mathlib.Core.List.{List}
-use mathlib.Core.Option.{Option, none, some, none-ne-some, some-ne-none}
+use Rattle.std.specs.Prelude.{Option, None, Some}
+use Rattle.std.proofs.lemmas.Option.{none-some}
 use native.Mathlib.Decide.{ℕ_discrete, dec_lt}
 use native.Mathlib.Omega.{arith}
 use borrow.Author.Tests.{ltb-true, ltb-false}
@@ -56,7 +57,7 @@ find-latest left time first has_entry (suc bound) = compare-last (find-latest le
         (λ is_earlier. omega arith)))
 
 -- where no lowest thread is found none may be taken
-lowest-none : (logs : List StoredLog) (left : List ℕ) (thread count : ℕ) → lowest_from logs left thread count ≡ none →
+lowest-none : (logs : List StoredLog) (left : List ℕ) (thread count : ℕ) → lowest_from logs left thread count ≡ None →
     (other : ℕ) → thread ≤ other → other < thread + count → may_take logs left other ≡ false
 unfolding lowest_from
 lowest-none logs left thread zero none_found other over below = absurd (omega arith)
@@ -64,11 +65,11 @@ lowest-none logs left thread (suc count) none_found other over below =
     by_first (may_take logs left thread) refl none_found (λ rest. lowest-none logs left (suc thread) count rest other)
   where
     by_first : (first : Bool) → may_take logs left thread ≡ first →
-        cond first (some thread) (lowest_from logs left (suc thread) count) ≡ none →
-        (lowest_from logs left (suc thread) count ≡ none → suc thread ≤ other → other < suc thread + count →
+        cond first (Some thread) (lowest_from logs left (suc thread) count) ≡ None →
+        (lowest_from logs left (suc thread) count ≡ None → suc thread ≤ other → other < suc thread + count →
         may_take logs left other ≡ false) →
         may_take logs left other ≡ false
-    by_first true may is_first later = absurd (some-ne-none thread is_first)
+    by_first true may is_first later = absurd (none-some thread (sym is_first))
     by_first false may_not is_later later =
         by_cases
         (ℕ_discrete other thread)
@@ -78,7 +79,7 @@ lowest-none logs left thread (suc count) none_found other over below =
 -- the lowest thread of all whose last entry may be taken
 pub record Lowest (logs : List StoredLog) (left : List ℕ) : Type 0 where
   pub thread : ℕ
-  pub is_lowest : lowest_from logs left 0 thread_count ≡ some thread
+  pub is_lowest : lowest_from logs left 0 thread_count ≡ Some thread
   pub in_range : thread < thread_count
   pub may : may_take logs left thread ≡ true
 
@@ -123,9 +124,9 @@ module _ (logs : List StoredLog) (present : List ℕ) (timed : Timed logs presen
     where
       by-lowest : (found : Option ℕ) → lowest_from logs undo.left 0 thread_count ≡ found → (latest : ℕ) →
           latest < thread_count → may_take logs undo.left latest ≡ true → Lowest logs undo.left
-      by-lowest none none_found latest in_range may =
+      by-lowest None none_found latest in_range may =
           absurd (true≢false (sym may ∙ lowest-none logs undo.left 0 thread_count none_found latest (omega arith) (omega arith)))
-      by-lowest (some thread) is_found latest in_range may =
+      by-lowest (Some thread) is_found latest in_range may =
           let found = lowest-may logs undo.left 0 thread_count thread is_found in
           record { thread = thread; is_lowest = is_found; in_range = omega (arith, found.0); may = found.1 }
 
@@ -208,12 +209,12 @@ module _ (logs : List StoredLog) (present : List ℕ) where
             ((after : Undo) → Partway present after → total_of after.left thread_count ≤ count →
             has_left (take_many count logs after) ≡ false) →
             has_left (take_many count logs (take_from logs undo found)) ≡ false
-        by-lowest none none_found later =
+        by-lowest None none_found later =
             let ends = fails (has_left undo) (λ is_left.
             let lowest = progress logs present timed undo partway is_left in
-            none-ne-some lowest.thread (sym none_found ∙ lowest.is_lowest)) in
+            none-some lowest.thread (sym none_found ∙ lowest.is_lowest)) in
             later undo partway (omega (arith, total_bounded undo.left 0 thread_count (none_left undo ends)))
-        by-lowest (some thread) is_found later =
+        by-lowest (Some thread) is_found later =
             let may = (lowest-may logs undo.left 0 thread_count thread is_found).1 in
             later
             (take_last logs undo thread)

@@ -1,23 +1,22 @@
 -- Refusal 24 is given exactly where there is no order: where there is one document 01's order takes all entries, and where that takes all,
 -- the list of the entries as they were taken is one.
 use Prim.Native.Nat.{ℕ, ◌≤◌, ◌<◌}
-use mathlib.Core.Path.{◌≡◌, refl, sym, ap, ◌∙◌}
+use mathlib.Core.Path.{◌≡◌, refl, sym, ap}
 use mathlib.Core.Bool.{Bool, true, false}
 use mathlib.Core.Logic.{◌⊎◌, inl, inr}
 use mathlib.Core.List.{List}
-use native.Mathlib.Omega.{arith}
 use lib.ListN.{length, take}
+use Rattle.std.specs.Prelude.{Ok, Err}
 use Rattle.sizes.specs.Sizes.{thread_count}
-use Rattle.answer.specs.Answer.{number_of}
 use Rattle.answer.specs.Refusals.{first_refusal, Outcome}
-use Rattle.answer.specs.declared.Answer.TheVariants.{Accepted, Cyclic}
+use Rattle.answer.specs.declared.Refusal.TheVariants.{Cyclic}
+use Rattle.answer.proofs.RefusalLaws.{never-ok}
 use Rattle.ring.specs.Ring.{slot_count}
 use Rattle.reader.specs.Stretch.{heads_at}
 use Rattle.image.specs.Stored.{stored_logs, present_entries}
 use Rattle.image.specs.Tests.{image_tests}
-use Rattle.image.specs.Reading.{log_in, tested_of}
+use Rattle.image.specs.Reading.{log_in}
 use Rattle.image.proofs.LogsRead.{present_few, counts-long, count-present}
-use Rattle.image.proofs.Outcomes.{tested-first}
 use Rattle.undoing.specs.Undo.{left_of, undo_start, undone}
 use Rattle.recovery.specs.Recover.{has_left, recover_of}
 use Rattle.recovery.proofs.Outcomes.{cyclic, recovered}
@@ -44,22 +43,19 @@ module _ (image : List ℕ) where
       let taken = many_takes (stored_logs image) 256 (undo_start image) in
       (taken.0, takes-order taken.1 (counts-long image) nothing)
 
-  module _ (buffer : List ℕ) (passes : first_refusal (image_tests image) ≡ Accepted 0) (is_buffer : length buffer ≡ heads_at) where
-    tested : number_of (tested_of image).answer ≡ 0
-    tested = ap number_of (tested-first image ∙ passes)
-
+  module _ (buffer : List ℕ) (passes : first_refusal (image_tests image) ≡ Ok 0) (is_buffer : length buffer ≡ heads_at) where
     -- with entries left the answer is 24, and with none acceptance
-    gives-24 : has_left (undone image) ≡ true → (recover_of image buffer).answer ≡ Cyclic
-    gives-24 left = sym (ap (λ (outcome : Outcome). outcome.answer) (cyclic image buffer is_buffer tested left))
+    gives-24 : has_left (undone image) ≡ true → (recover_of image buffer).answer ≡ Err Cyclic
+    gives-24 left = sym (ap (λ (outcome : Outcome). outcome.answer) (cyclic image buffer is_buffer passes left))
 
-    accepts : has_left (undone image) ≡ false → (recover_of image buffer).answer ≡ Accepted 0
-    accepts nothing = sym (ap (λ (outcome : Outcome). outcome.answer) (recovered image buffer is_buffer tested nothing))
+    accepts : has_left (undone image) ≡ false → (recover_of image buffer).answer ≡ Ok 0
+    accepts nothing = sym (ap (λ (outcome : Outcome). outcome.answer) (recovered image buffer is_buffer passes nothing))
 
-    not-both : (recover_of image buffer).answer ≡ Cyclic → (recover_of image buffer).answer ≡ Accepted 0 → ⊥
-    not-both is_cyclic is_accepted = let never : ◌≡◌ {A = ℕ} 24 0 = ap number_of (sym is_cyclic ∙ is_accepted) in omega arith
+    not-both : (recover_of image buffer).answer ≡ Err Cyclic → (recover_of image buffer).answer ≡ Ok 0 → ⊥
+    not-both is_cyclic is_accepted = never-ok is_cyclic is_accepted
 
     decided : (left : Bool) → has_left (undone image) ≡ left →
-        ((recover_of image buffer).answer ≡ Cyclic) ⊎ ((recover_of image buffer).answer ≡ Accepted 0)
+        ((recover_of image buffer).answer ≡ Err Cyclic) ⊎ ((recover_of image buffer).answer ≡ Ok 0)
     decided true left = inl (gives-24 left)
     decided false nothing = inr (accepts nothing)
 

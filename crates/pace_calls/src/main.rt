@@ -10,19 +10,17 @@ use std::io;
 // How many calls there are.
 const CALLS: u64 = 6300;
 
+// The cells of a call, each in a line of its own.
+const LOGGED: [u64; 16] = [
+    0, 8, 16, 24, 32, 40, 48, 56, 64, 72, 80, 88, 96, 104, 112, 120,
+];
+
 // How many cells so many calls accept.
 fn logged(calls: u64) -> u64 {
-    let start = [0u64; CELLS];
-    let cells = [
-        0u64, 8, 16, 24, 32, 40, 48, 56, 64, 72, 80, 88, 96, 104, 112, 120,
-    ];
-    let started = Machine::start(&start);
-    let mut done = 0u64;
+    let started = Machine::start(&[0; CELLS]);
     let mut sum = 0u64;
-    while done < calls {
-        let call = log_cells(started.machine, done % 4, &cells);
-        sum = (sum + call.count % 100) % 1000000;
-        done += 1;
+    for done in 0..calls {
+        sum = sum.saturating_add(log_cells(started.machine, done % 4, &LOGGED).count);
     }
     sum
 }

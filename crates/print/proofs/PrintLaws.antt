@@ -1,31 +1,67 @@
 -- Laws of what is printed: the lines as their pieces make them.
-use Prim.Native.Nat.{ℕ, ◌+◌, ◌≤◌, ◌<◌}
+use Prim.Native.Nat.{ℕ, ◌+◌, ◌*◌, ◌≤◌, ◌<◌}
 use mathlib.Core.Path.{◌≡◌, refl, sym, ◌∙◌, ap, ap₂}
 use mathlib.Core.List.{List, [], ◌++◌, append_assoc, append-nil}
 use native.Mathlib.Numerals.{add-one}
 use native.Mathlib.Omega.{arith}
 use borrow.Author.Tests.{eq-eqb, ne_eqb}
-use lib.ListN.{length, get_or, take, drop, length-append, take-append-drop, drop_of_length-le}
+use denote.Ref.{Bor}
+use lib.ListN.{replicate, length, get_or, take, drop, length-append, take-append-drop, drop_of_length-le}
 use lib.Seq.{length-take-le, take-length}
 use Rattle.number.specs.Decimal.{decimal_text}
 use Rattle.names.specs.Text.{ascii}
 use Rattle.buffer.specs.Buffers.{written, place_after}
-use Rattle.print.specs.Printed.{labelled_text, numbers_text, cell_text, cells_text}
+use Rattle.print.specs.Printed.{fields_text, cell_text, cells_text}
 use Rattle.buffer.proofs.BufferLaws.{Wrote, wrote_more, wrote_long, wrote_front, pasted}
 use Rattle.buffer.proofs.DecimalLaws.{decimal-most}
-use Rattle.number.proofs.NumberLaws.{drop_first}
+use Rattle.std.specs.List.{All}
+use Rattle.std.proofs.lemmas.List.{drop_more}
+use Rattle.std.proofs.lemmas.List.Elements.{All-get_or}
 
--- a line of two numbers, of at most 20 digits each, with labels of at most 9 and 8 bytes
-pub labelled_most : (first : List ℕ) (a : ℕ) (second : List ℕ) (b : ℕ) → length first ≤ 9 → length second ≤ 8
-    → length (labelled_text first a second b) ≤ 58
-unfolding labelled_text ascii
-labelled_most first a second b few few' = simp length-append (omega (arith, decimal-most a, decimal-most b))
+-- so many fields are in the line, and those that are left make up the whole
+pub record FieldsWrote (fields : List (Bor (List ℕ) × ℕ)) (line : List ℕ) (end i : ℕ) : Type 0 where
+  pub done : List ℕ
+  pub wrote : Wrote (replicate 88 0) line end done
+  pub small : length done ≤ 29 * i
+  pub left : done ++ fields_text (drop i fields) ≡ fields_text fields
 
--- a number before the line of two numbers makes the numbered line
-pub numbers-line : (number : ℕ) (first : List ℕ) (a : ℕ) (second : List ℕ) (b : ℕ)
-    → ascii "n=" ++ decimal_text number ++ labelled_text first a second b ≡ numbers_text number first a second b
-unfolding labelled_text numbers_text
-numbers-line number first a second b = simp (append_assoc)
+module _ {fields : List (Bor (List ℕ) × ℕ)} {line : List ℕ} {end i : ℕ} (so_far : FieldsWrote fields line end i) (few : length fields ≤ 3) where
+  -- a label of at most 9 bytes and a number of at most 20 digits are written after the fields before them
+  pub fields_on : i < length fields → All (λ field. length field.0.now ≤ 9) fields → (none : Bor (List ℕ) × ℕ)
+      → {end' : ℕ} {line' : List ℕ}
+      → end' ≡ place_after line end (get_or fields i none).0.now → line' ≡ written line end (get_or fields i none).0.now
+      → {end'' : ℕ} {line'' : List ℕ}
+      → end'' ≡ place_after line' end' (decimal_text (get_or fields i none).1)
+      → line'' ≡ written line' end' (decimal_text (get_or fields i none).1)
+      → FieldsWrote fields line'' end'' (i + 1)
+  unfolding fields_text
+  fields_on within short none at is at' is' =
+      let field : Bor (List ℕ) × ℕ = get_or fields i none in
+      let label = field.0.now in
+      let number = decimal_text field.1 in
+      let rest = fields_text (drop (i + 1) fields) in
+      let label_short : length label ≤ 9 = All-get_or (λ (each : Bor (List ℕ) × ℕ). length each.0.now ≤ 9) fields i none within short in
+      let number_short = decimal-most field.1 in
+      let next : label ++ number ++ rest ≡ fields_text (drop i fields) = ap fields_text (sym (drop_more fields i none within)) in
+      let labelled = length-append so_far.done label in
+      let made = wrote_more label so_far.wrote (omega (arith, so_far.small)) at is in
+      record {
+        done = (so_far.done ++ label) ++ number;
+        wrote = wrote_more number made (omega (arith, so_far.small)) at' is';
+        small = omega (arith, so_far.small, length-append (so_far.done ++ label) number);
+        left = simp append_assoc (simp append_assoc at (ap (λ (tail : List ℕ). so_far.done ++ tail) next ∙ so_far.left));
+      }
+
+  -- after the last field a newline ends the line
+  pub fields_end : length fields ≤ i → i ≤ length fields → {end' : ℕ} {line' : List ℕ}
+      → end' ≡ place_after line end (ascii "\n") → line' ≡ written line end (ascii "\n")
+      → Wrote (replicate 88 0) line' end' (fields_text fields)
+  unfolding fields_text ascii
+  fields_end past most at is =
+      let none_left : ascii "\n" ≡ fields_text (drop i fields) = ap fields_text (sym (drop_of_length-le fields past)) in
+      let whole : so_far.done ++ ascii "\n" ≡ fields_text fields =
+      ap (λ (tail : List ℕ). so_far.done ++ tail) none_left ∙ so_far.left in
+      rw (← whole) (wrote_more (ascii "\n") so_far.wrote (omega (arith, so_far.small)) at is)
 
 module _ {old line : List ℕ} {end : ℕ} {text : List ℕ} (made : Wrote old line end text) where
   -- a line that is made in an array of its own ends within it
@@ -44,12 +80,12 @@ module _ (cells : List ℕ) (i : ℕ) where
   pub cells-on : i < length cells → (get_or cells i 0 ≡ 0 → ⊥) →
       cells_text i (drop i cells) ≡ cell_text i (get_or cells i 0) ++ cells_text (i + 1) (drop (i + 1) cells)
   unfolding cells_text
-  cells-on within some = rw (drop_first cells i within, ne_eqb (get_or cells i 0) 0 some, add-one)
+  cells-on within some = rw (drop_more cells i 0 within, ne_eqb (get_or cells i 0) 0 some, add-one)
 
   -- a cell that is 0 has no line before those of the cells after it
   pub cells-skip : i < length cells → get_or cells i 0 ≡ 0 → cells_text i (drop i cells) ≡ cells_text (i + 1) (drop (i + 1) cells)
   unfolding cells_text
-  cells-skip within none = rw (drop_first cells i within, eq-eqb (get_or cells i 0) 0 none, add-one)
+  cells-skip within none = rw (drop_more cells i 0 within, eq-eqb (get_or cells i 0) 0 none, add-one)
 
   pub cells-end : length cells ≤ i → cells_text i (drop i cells) ≡ []
   unfolding cells_text

@@ -1,18 +1,15 @@
 -- What is printed of a step, of a recovered cell, of a cut and of a claimed order that is marked.
 use Rattle.std.specs.Prelude.{ℕ, suc, cond, List, [], ◌∷◌, ◌++◌, eqb}
+use denote.Ref.{Bor}
 use Rattle.answer.specs.Answer.{number_of, value_of}
-use Rattle.answer.specs.declared.Answer.{Answer}
+use Rattle.answer.specs.Answer.{Answer}
 use Rattle.number.specs.Decimal.{decimal_text}
 use Rattle.names.specs.Text.{ascii}
 
--- a line of two numbers, each after its label
-unfoldable pub labelled_text : List ℕ → ℕ → List ℕ → ℕ → List ℕ
-labelled_text first a second b = first ++ decimal_text a ++ second ++ decimal_text b ++ ascii "\n"
-
--- a numbered line with two more numbers, each after its label
-unfoldable pub numbers_text : ℕ → List ℕ → ℕ → List ℕ → ℕ → List ℕ
-numbers_text number first a second b =
-    ascii "n=" ++ decimal_text number ++ first ++ decimal_text a ++ second ++ decimal_text b ++ ascii "\n"
+-- a line of numbers, each after its label
+unfoldable pub fields_text : List (Bor (List ℕ) × ℕ) → List ℕ
+fields_text [] = ascii "\n"
+fields_text (field ∷ fields) = field.0.now ++ decimal_text field.1 ++ fields_text fields
 
 -- "It prints per step its number, answer and number given", as `n=1 answer=0 value=0`
 unfoldable pub result_text : ℕ → Answer → List ℕ

@@ -1,2 +1,2 @@
--- What PRUNE's tests answer.
-pub mod PruneLaws
+-- What PRUNE knows of the oldest region.
+pub mod RegionParts

@@ -1,8 +1,9 @@
 -- PRUNE, asked of a thread's log, the cells and the locks: its refusals in order, and what it leaves of these parts.
-use Rattle.std.specs.Prelude.{◌+◌, ◌-◌, Bool, false, not, List, [], ◌∷◌, ltb, get_or}
+use Rattle.std.specs.Prelude.{Ok, ◌+◌, ◌-◌, Bool, false, not, List, [], ◌∷◌, ltb, get_or}
 use Rattle.answer.specs.Lists.{some_below}
+use Rattle.answer.specs.Answer.{Answer}
 use Rattle.answer.specs.Refusals.{Test, ◌⇒◌, unless}
-use Rattle.answer.specs.declared.Answer.TheVariants.{Accepted, EntryNotDurable, NothingToPrune, EarlierReleaseNotPruned, CellNotDurable}
+use Rattle.answer.specs.declared.Refusal.TheVariants.{EntryNotDurable, NothingToPrune, EarlierReleaseNotPruned, CellNotDurable}
 use Rattle.cache.specs.Cache.{is_durable}
 use Rattle.cache.specs.declared.Cache.{Cache}
 use Rattle.thread_log.specs.Entries.{drop_of}
@@ -13,7 +14,12 @@ use Rattle.event.specs.declared.Event.{Event}
 use Rattle.event.specs.declared.Event.TheVariants.{Empty, Store, Acquire, Release}
 use Rattle.locks.specs.Locks.{no_lock, counted_locks}
 use Rattle.locks.specs.declared.Lock.{Lock}
-use Rattle.prune.specs.declared.Pruned.{Pruned}
+
+-- the answer of a PRUNE, beside the thread's log and the locks after it
+pub record Pruned : Type 0 where
+  pub answer : Answer
+  pub log : Log
+  pub locks : List Lock
 
 -- 16: "the region begins with ACQUIRE of count k and fewer than k regions ending in a RELEASE of that lock are pruned"
 abbrev pub awaits_release : List Lock → Event → Bool
@@ -44,7 +50,7 @@ prune_on log cache locks =
     (λ answer. record { answer = answer; log = log; locks = locks })
     (prune_tests log cache locks)
     (record {
-      answer = Accepted (oldest_region log);
+      answer = Ok (oldest_region log);
       log = drop_of log (oldest_region log);
       locks = counted_locks locks (live_event log (oldest_region log - 1));
     })

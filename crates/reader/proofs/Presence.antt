@@ -1,13 +1,15 @@
 -- Which entries are present, by any test of "this LSN is found": where the count of them stops and goes on, and what all of them are.
 use Prim.Native.Nat.{ℕ, zero, suc, ◌+◌, ◌-◌, ◌≤◌, ◌<◌}
-use mathlib.Core.Path.{◌≡◌, refl}
-use mathlib.Core.Bool.{Bool, true, false, ◌&&◌}
+use mathlib.Core.Path.{◌≡◌, refl, ap, ◌∙◌}
+use mathlib.Core.Bool.{Bool, true, false, cond, ◌&&◌}
 use mathlib.Core.Logic.{by_cases, ◌⊎◌, inl, inr, ⊎_elim}
 use native.Mathlib.Decide.{dec_le}
 use native.Mathlib.Nat.{add-zero}
 use native.Mathlib.Numerals.{add-one}
 use native.Mathlib.Omega.{arith}
 use lib.Dec.{leb}
+use lib.ListN.{take}
+use Rattle.std.specs.List.{prefix_len, range_with_len}
 use borrow.Author.Tests.{le-leb, lt-leb}
 use Rattle.ring.specs.Ring.{last_lsn}
 use Rattle.reader.specs.Stretch.{present_from}
@@ -49,13 +51,6 @@ module _ (found : ℕ → Bool) where
       (λ low. ⊎_elim (here low) (λ missing. stops (λ count. present-stops-at-missing number count missing)) (either (found number)))
       (λ high. stops (λ count. present-stops-past-last number count (omega arith)))
 
-  -- a turn of the count: of n LSNs, so many are found, and the next one is found too
-  pub present-turn : (number count n : ℕ) → count < n → number ≤ last_lsn → found number ≡ true
-      → count + 1 + present_from found (number + 1) (n - (count + 1)) ≡ count + present_from found number (n - count)
-  present-turn number count n more low here =
-      let left : n - count ≡ suc (n - (count + 1)) = omega arith in
-      rw (left, present-goes-on number (n - (count + 1)) low here, add-one number) (omega arith)
-
   -- of so many LSNs at most all are present
   pub present-at-most : (number count : ℕ) → present_from found number count ≤ count
   unfolding present_from
@@ -92,3 +87,19 @@ module _ (found : ℕ → Bool) where
       let here : found number ≡ true = rw add-zero at (all 0 (omega arith)) in
       let rest : (i : ℕ) → i < n → found (suc number + i) ≡ true = λ i below. rw (shift number i) (all (suc i) (omega arith)) in
       omega (arith, present-goes-on number count (omega arith) here, present-reaches (suc number) count n (omega arith) (omega arith) rest)
+
+  -- of so many LSNs at most, up to the last one there is, those from the front on that are found
+  pub present-counts : (number count : ℕ) →
+      prefix_len found (take count (range_with_len number (last_lsn + 1 - number))) ≡ present_from found number count
+  unfolding present_from
+  present-counts number zero = refl
+  present-counts number (suc count) =
+      let later : prefix_len found (take count (range_with_len (number + 1) (last_lsn + 1 - (number + 1)))) ≡ present_from found (suc number) count =
+      present-counts (number + 1) count ∙ ap (λ (next : ℕ). present_from found next count) (add-one number) in
+      by_cases (dec_le number last_lsn)
+      (λ low.
+      let more : last_lsn + 1 - number ≡ suc (last_lsn + 1 - (number + 1)) = omega arith in
+      rw (more, le-leb number last_lsn low) (ap (λ (rest : ℕ). cond (found number) rest 0) (omega (arith, later))))
+      (λ high.
+      let none : last_lsn + 1 - number ≡ 0 = omega arith in
+      rw (none, lt-leb number last_lsn (omega arith)))

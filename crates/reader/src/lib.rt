@@ -18,6 +18,7 @@ pub const LOGS_AT: usize = 132;
 pub const IMAGE_WORDS: usize = 1156;
 
 // A thread's own 256 words of an image; an empty part for a thread over 3 or an image that is not of 1,156 words.
+#[tactic(auto, unfolding(crate::specs::Stretch::stretch_of))]
 pub fn stretch(image: &[u64], thread: usize) -> &[u64]
     ensures { result.now ≡ stretch_of image.now thread }
 {
@@ -36,30 +37,17 @@ pub fn word(stretch: &[u64], number: u64, index: usize) -> u64
     ensures { result ≡ word_at stretch.now number index }
 {
     let first = (number % words::SLOTS) as usize * ENTRY_WORDS;
-    if stretch.len() <= first {
-        return 0;
-    }
-    if stretch.len() - first <= index {
-        return 0;
-    }
-    stretch[first + index]
+    // No stretch is as long as the largest number is, so a sum that stops there is past the end too.
+    let at = first.saturating_add(index);
+    stretch.get(at).copied().unwrap_or(0)
 }
 
 // How many LSNs from the head on are found in their slots, up to the first missing one: at most 64, and none over 1,000,000.
 pub fn present(stretch: &[u64], head: u64) -> usize
     ensures { result ≡ present_of stretch.now head }
 {
-    let mut found = 0;
-    let mut number = head;
-    while found < SLOTS {
-        if words::LAST_LSN < number {
-            return found;
-        }
-        if word(stretch, number, LSN_WORD) != number {
-            return found;
-        }
-        found += 1;
-        number += 1;
-    }
-    found
+    (head..words::LAST_LSN + 1)
+        .take(SLOTS)
+        .take_while(|number| word(stretch, *number, LSN_WORD) == *number)
+        .count()
 }

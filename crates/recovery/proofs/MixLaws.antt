@@ -4,7 +4,7 @@ use Prim.Native.Nat.{ℕ, zero, suc, ◌+◌, ◌-◌, ◌*◌}
 use mathlib.Core.Path.{◌≡◌, refl, sym, ap, ap₂, ◌∙◌}
 use mathlib.Core.Bool.{Bool, true, false, cond, not, ◌&&◌}
 use mathlib.Core.List.{List, [], ◌∷◌, ◌++◌, map}
-use mathlib.Core.Option.{Option, none, some}
+use Rattle.std.specs.Prelude.{Option, None, Some, Ok, Err}
 use native.Mathlib.Nat.{suc_inj, suc-ne-zero}
 use native.Mathlib.Omega.{arith}
 use lib.ListN.{length, get_or, set, take, drop, length-append, length-set, length-drop}
@@ -13,8 +13,8 @@ use lib.Dec.{eqb, ltb}
 use Rattle.sizes.specs.Sizes.{thread_count}
 use Rattle.answer.specs.Lists.{some_below, mix_from}
 use Rattle.answer.specs.Refusals.{Test, ◌⇒◌, unless, Outcome}
-use Rattle.answer.specs.declared.Answer.{Answer}
-use Rattle.answer.specs.declared.Answer.TheVariants.{Accepted, WrongLength, BadHead, BadEntry, Cyclic}
+use Rattle.answer.specs.Answer.{Answer}
+use Rattle.answer.specs.declared.Refusal.TheVariants.{WrongLength, BadHead, BadEntry, Cyclic}
 use Rattle.answer.proofs.ListLaws.{cond_same, tab-same, length-mix_from}
 use Rattle.reader.specs.Stretch.{image_words, heads_at, stretch_at, stretch_words, stretch_of}
 use Rattle.image.specs.Stored.{StoredLog, stored_logs, stored_log, present_in, entry_kind, entry_place, entry_value}
@@ -73,7 +73,7 @@ module _ (test : ℕ → Bool) (logs : List StoredLog) where
 
   take-mixes : (left news olds : List ℕ) (next : Option ℕ) → length news ≡ length olds → Mixed left news olds next
   unfolding take_last
-  take-mixes left news olds none long = record {
+  take-mixes left news olds None long = record {
     next_left = left;
     next_news = news;
     next_olds = olds;
@@ -82,7 +82,7 @@ module _ (test : ℕ → Bool) (logs : List StoredLog) where
     of_olds = refl;
     of_mixed = refl;
   }
-  take-mixes left news olds (some thread) long =
+  take-mixes left news olds (Some thread) long =
       let log = stored_log logs thread in
       let last = left_of left thread - 1 in
       let is_store = eqb (entry_kind log last) 1 in
@@ -163,13 +163,13 @@ tests_are image buffer = refl
 -- a refusal is the same for two lists of cells and for their mixture, and where none is given the cells are the mixture
 unless_mixes : (test : ℕ → Bool) (buffer news olds : List ℕ) (tests : List Test)
     → let refuse : Answer → Outcome = λ answer. record { answer = answer; buffer = buffer } in
-    let outcome : List ℕ → Outcome = λ cells. unless refuse tests (record { answer = Accepted 0; buffer = cells }) in
+    let outcome : List ℕ → Outcome = λ cells. unless refuse tests (record { answer = Ok 0; buffer = cells }) in
     outcome (mix_from test 0 news olds) ≡ mixed_outcome test (outcome news) (outcome olds)
 unfolding unless
 unless_mixes test buffer news olds [] = refl
-unless_mixes test buffer news olds ((true ⇒ answer) ∷ tests) =
-    ap (λ (cells : List ℕ). record { answer = answer; buffer = cells }) (sym (mix_from-same test 0 buffer))
-unless_mixes test buffer news olds ((false ⇒ answer) ∷ tests) = unless_mixes test buffer news olds tests
+unless_mixes test buffer news olds ((true ⇒ refusal) ∷ tests) =
+    ap (λ (cells : List ℕ). record { answer = Err refusal; buffer = cells }) (sym (mix_from-same test 0 buffer))
+unless_mixes test buffer news olds ((false ⇒ refusal) ∷ tests) = unless_mixes test buffer news olds tests
 
 module _ (test : ℕ → Bool) (news olds buffer : List ℕ) (is_news : length news ≡ image_words)
     (is_olds : length olds ≡ image_words) (same : drop heads_at news ≡ drop heads_at olds) where
@@ -227,7 +227,7 @@ module _ (test : ℕ → Bool) (news olds buffer : List ℕ) (is_news : length n
   refuse answer = record { answer = answer; buffer = buffer }
 
   abbrev accepts : List ℕ → Outcome
-  accepts cells = record { answer = Accepted 0; buffer = cells }
+  accepts cells = record { answer = Ok 0; buffer = cells }
 
   tests_same : (image : List ℕ) → length image ≡ image_words → stored_logs image ≡ stored_logs olds →
       (undone image).left ≡ (undone olds).left → recover_tests image buffer ≡ recover_tests olds buffer

@@ -1,9 +1,10 @@
 -- Recovery's tests 21 to 24, and its outcome: the answer, and what the lent buffer for the cells then holds.
+use Rattle.std.specs.Prelude.{Ok}
 use Rattle.std.specs.Prelude.{ℕ, Bool, not, List, [], ◌∷◌, ◌++◌, length, eqb, ltb}
 use Rattle.sizes.specs.Sizes.{thread_count}
 use Rattle.answer.specs.Lists.{some_below}
 use Rattle.answer.specs.Refusals.{Test, ◌⇒◌, unless, Outcome}
-use Rattle.answer.specs.declared.Answer.TheVariants.{Accepted, WrongLength, Cyclic}
+use Rattle.answer.specs.declared.Refusal.TheVariants.{WrongLength, Cyclic}
 use Rattle.reader.specs.Stretch.{heads_at}
 use Rattle.image.specs.Tests.{image_tests}
 use Rattle.undoing.specs.Undo.{Undo, left_of, undone}
@@ -23,4 +24,4 @@ recover_of image buffer =
     unless
     (λ answer. record { answer = answer; buffer = buffer })
     (recover_tests image buffer)
-    (record { answer = Accepted 0; buffer = (undone image).cells })
+    (record { answer = Ok 0; buffer = (undone image).cells })

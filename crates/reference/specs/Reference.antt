@@ -1,6 +1,6 @@
 -- Document 01's plain book: what demand 3 compares recovery with. It is fed each step's four fields and whether it was accepted.
-use Rattle.std.specs.Prelude.{ℕ, suc, Bool, true, false, cond, not, ◌&&◌, ◌||◌, List, [], ◌∷◌, ◌++◌, map, length, get_or, set, eqb}
-use Rattle.std.proofs.Math.Option.{Option, none, some}
+use Rattle.std.specs.Prelude.{ℕ, suc, Bool, true, false, cond, not, ◌&&◌, ◌||◌, List, [], ◌∷◌, ◌++◌, map, length, get_or, set, eqb, Option}
+use Rattle.std.specs.Prelude.{None, Some}
 
 -- "A region belongs to a thread, is open or ended, and is committed or not."
 pub record Region : Type 0 where
@@ -30,9 +30,9 @@ is_open_of thread region = eqb region.thread thread && region.is_open
 
 -- the place of the thread's open region, counted from this number on
 unfoldable pub open_from : ℕ → List Region → ℕ → Option ℕ
-open_from thread [] place = none
+open_from thread [] place = None
 open_from thread (region ∷ regions) place =
-    cond (is_open_of thread region) (some place) (open_from thread regions (suc place))
+    cond (is_open_of thread region) (Some place) (open_from thread regions (suc place))
 
 -- the thread's open region, if any
 unfoldable pub open_of : Book → ℕ → Option ℕ
@@ -48,8 +48,8 @@ open_another book thread =
 
 -- "opens a region for its thread if none is open"
 abbrev pub open_unless : Option ℕ → Book → ℕ → Book
-open_unless none book thread = open_another book thread
-open_unless (some place) book thread = book
+open_unless None book thread = open_another book thread
+open_unless (Some place) book thread = book
 
 -- the open region of the thread is ended
 abbrev pub end_of : ℕ → Region → Region
@@ -72,8 +72,8 @@ commit_oldest thread (region ∷ regions) =
 
 -- the store goes to the end of the list, under the open region
 abbrev pub write : Option ℕ → Book → ℕ → ℕ → Book
-write none book cell value = book
-write (some place) book cell value = record {
+write None book cell value = book
+write (Some place) book cell value = record {
   start = book.start;
   regions = book.regions;
   writes = book.writes ++ (record { cell = cell; value = value; region = place } ∷ []);
@@ -114,13 +114,13 @@ feed book kind thread place value is_accepted = cond is_accepted (feed_accepted 
 -- the place of the region that an accepted step joins, if it joins one: LOG, STORE and LOGREL the open one, which LOG and LOGREL may
 -- have opened, and ACQUIRE the one that it opens
 abbrev pub join_opened : Option ℕ → Book → Option ℕ
-join_opened none book = some (length book.regions)
-join_opened (some place) book = some place
+join_opened None book = Some (length book.regions)
+join_opened (Some place) book = Some place
 
 unfoldable pub joins : Book → ℕ → ℕ → Option ℕ
 joins book kind thread =
     cond (eqb kind 2 || eqb kind 5) (join_opened (open_of book thread) book)
-    (cond (eqb kind 3) (open_of book thread) (cond (eqb kind 4) (some (length book.regions)) none))
+    (cond (eqb kind 3) (open_of book thread) (cond (eqb kind 4) (Some (length book.regions)) None))
 
 -- the region at this place is committed
 abbrev pub is_committed_at : List Region → ℕ → Bool

@@ -1,5 +1,5 @@
 -- The oldest region of a log: a walk over the live entries finds its size, which stays within these.
-use Prim.Native.Nat.{ℕ, zero, suc, ◌+◌, ◌-◌, ◌<◌, ◌≤◌}
+use Prim.Native.Nat.{ℕ, suc, ◌+◌, ◌-◌, ◌<◌, ◌≤◌}
 use mathlib.Core.Bool.{Bool, true, false, false≢true}
 use mathlib.Core.Logic.{by_cases}
 use mathlib.Core.Path.{◌≡◌, refl}
@@ -12,13 +12,6 @@ use Rattle.thread_log.specs.declared.Log.{Log}
 use Rattle.undo.specs.Entering.{live_event}
 use Rattle.undo.specs.Regions.{is_acquire, is_release, goes_on, oldest_region, is_finished}
 use Rattle.undo.proofs.RegionLaws.{goes-most}
-use Rattle.undo.proofs.Walks.{seen}
-
--- a walk looks at the cached entries and the head alone
-goes_on-seen : (log : Log) (index count : ℕ) → goes_on log index count ≡ goes_on (seen log.cached log.head) index count
-unfolding goes_on
-goes_on-seen log index zero = refl
-goes_on-seen log index (suc count) = rw (goes_on-seen log (suc index) count)
 
 module _ (log : Log) (index n : ℕ) (more : index < n) where
   one_more : n - index ≡ suc (n - (index + 1))
@@ -51,17 +44,17 @@ module _ (log : Log) (some : live_count log ≡ 0 → ⊥) where
   region-of-release release = rw (ne_eqb (live_count log) 0 some, release)
 
   pub region-goes-on : is_release (live_event log 0) ≡ false
-      → oldest_region log ≡ 1 + goes_on (seen log.cached log.head) 1 (live_count log - 1)
+      → oldest_region log ≡ 1 + goes_on log 1 (live_count log - 1)
   unfolding oldest_region
   region-goes-on release =
-      rw (ne_eqb (live_count log) 0 some, release, goes_on-seen log 1 (live_count log - 1)) (omega arith)
+      rw (ne_eqb (live_count log) 0 some, release) (omega arith)
 
 -- the oldest region has an entry where one is live, and its entries are live
 region-bounds : (log : Log) (release : Bool) → is_release (live_event log 0) ≡ release → (live_count log ≡ 0 → ⊥)
     → (1 ≤ oldest_region log) × (oldest_region log ≤ live_count log)
 region-bounds log true e some = omega (arith, region-of-release log some e)
 region-bounds log false e some =
-    omega (arith, region-goes-on log some e, goes-most (seen log.cached log.head) 1 (live_count log - 1))
+    omega (arith, region-goes-on log some e, goes-most log 1 (live_count log - 1))
 
 pub region-some : (log : Log) → (live_count log ≡ 0 → ⊥) → 1 ≤ oldest_region log
 region-some log some = (region-bounds log (is_release (live_event log 0)) refl some).0

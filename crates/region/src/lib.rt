@@ -5,109 +5,75 @@ ghost use Rattle.std.specs.Prelude.{◌≡◌, true, false, cond, not, ◌&&◌,
 ghost use Rattle.undo.specs.Entering.{live_event};
 ghost use Rattle.undo.specs.Regions.{is_acquire, is_release, oldest_region, oldest_of};
 
-use event::{Event, event_of};
+use event::Event;
 use ring::slot_after;
 use thread_log::Log;
 use undo::Region;
 
 // What the live entry says that has so many live ones before it.
-pub fn live_event(log: Log, index: usize) -> Event
-    ensures { result ≡ live_event log index }
+pub fn live_event(log: &Log, index: usize) -> Event
+    ensures { result ≡ live_event log.now index }
 {
-    let cached = log.cached;
-    let slot = slot_after(log.head, index);
-    let entry = cached[slot];
-    event_of(entry)
+    Event::from(log.cached[slot_after(log.head, index)])
 }
 
 // The entry is an ACQUIRE.
 fn is_acquire(event: Event) -> bool
     ensures { result ≡ is_acquire event }
 {
-    match event {
-        Event::Empty => false,
-        Event::Store { cell: _, old: _ } => false,
-        Event::Acquire { lock: _, count: _ } => true,
-        Event::Release { lock: _, count: _ } => false,
-    }
+    matches!(event, Event::Acquire { .. })
 }
 
 // The entry is a RELEASE.
 fn is_release(event: Event) -> bool
     ensures { result ≡ is_release event }
 {
-    match event {
-        Event::Empty => false,
-        Event::Store { cell: _, old: _ } => false,
-        Event::Acquire { lock: _, count: _ } => false,
-        Event::Release { lock: _, count: _ } => true,
-    }
+    matches!(event, Event::Release { .. })
 }
 
-// How many entries the oldest region has that is not pruned: 0 where no entry is live. One copy of the slots serves the whole walk.
-fn region_size(log: Log) -> usize
-    ensures { result ≡ oldest_region log }
+// How many entries the oldest region has that is not pruned: 0 where no entry is live.
+fn region_size(log: &Log) -> usize
+    ensures { result ≡ oldest_region log.now }
 {
-    let head = log.head;
-    let cached = log.cached;
-    let tail = log.tail;
-    let live = tail.live_count(head) as usize;
+    let live = log.tail.live_count(log.head) as usize;
     if live == 0 {
         return 0;
     }
-    let slot = slot_after(head, 0);
-    let entry = cached[slot];
-    let event = event_of(entry);
-    if is_release(event) {
+    if is_release(live_event(log, 0)) {
         return 1;
     }
-    let mut count = 1;
-    while count < live {
-        let slot = slot_after(head, count);
-        let entry = cached[slot];
-        let event = event_of(entry);
+    for index in 1..live {
+        let event = live_event(log, index);
         if is_acquire(event) {
-            return count;
+            return index;
         }
-        count += 1;
         if is_release(event) {
-            return count;
+            return index + 1;
         }
     }
-    count
+    live
 }
 
 // A region of this size and with this last entry is finished: its RELEASE step was taken, or the next ACQUIRE is there.
 fn is_finished(size: usize, live: usize, last: Event, releasing: bool) -> bool
     ensures { result ≡ cond (ltb size live) true (cond (eqb size 0) false (is_release last && not releasing)) }
 {
-    if size < live {
-        return true;
-    }
-    if size == 0 {
-        return false;
-    }
-    if is_release(last) {
-        return !releasing;
-    }
-    false
+    size < live || 0 < size && is_release(last) && !releasing
 }
 
 // The oldest region that is not pruned.
-pub fn oldest(log: Log) -> Region
-    ensures { result ≡ oldest_of log }
+#[tactic(auto, unfolding(undo::specs::Regions::is_finished))]
+pub fn oldest(log: &Log) -> Region
+    ensures { result ≡ oldest_of log.now }
 {
     let size = region_size(log);
-    let first = live_event(log, 0);
-    let last_at = if 0 < size { size - 1 } else { 0 };
+    let last_at = size.saturating_sub(1);
     let last = live_event(log, last_at);
-    let tail = log.tail;
-    let live = tail.live_count(log.head) as usize;
-    let finished = is_finished(size, live, last, tail.is_releasing());
+    let live = log.tail.live_count(log.head) as usize;
     Region {
         size,
-        first,
+        first: live_event(log, 0),
         last,
-        finished,
+        finished: is_finished(size, live, last, log.tail.is_releasing()),
     }
 }

@@ -1,7 +1,8 @@
 -- A whole run over lent buffers: the start call, a list of steps given as words, the cut and recovery.
+use Rattle.std.specs.Prelude.{Ok, Err}
 use Rattle.std.specs.Prelude.{ℕ, zero, suc, ◌+◌, ◌*◌, ◌/◌, cond, ◌&&◌, List, [], ◌∷◌, length, get_or, eqb}
-use Rattle.answer.specs.declared.Answer.{Answer}
-use Rattle.answer.specs.declared.Answer.TheVariants.{Accepted, WrongLength}
+use Rattle.answer.specs.Answer.{Answer}
+use Rattle.answer.specs.declared.Refusal.TheVariants.{WrongLength}
 use Rattle.cache.specs.Cache.{cell_count}
 use Rattle.reader.specs.Stretch.{image_words}
 use Rattle.machine.specs.Image.{image_of}
@@ -48,8 +49,8 @@ unfoldable pub replay_of : List ℕ → List ℕ → List ℕ → List ℕ → R
 replay_of words steps image cells =
     cond (eqb (length image) image_words && eqb (length cells) cell_count)
     (record {
-      answer = Accepted 0;
+      answer = Ok 0;
       image = image_of (machine_after words (steps_of steps));
       cells = cells_of (book_after words (steps_of steps));
     })
-    (record { answer = WrongLength; image = image; cells = cells })
+    (record { answer = Err WrongLength; image = image; cells = cells })

@@ -5,7 +5,7 @@ ghost use Rattle.std.specs.Prelude.{◌≡◌};
 ghost use Rattle.machine.specs.Holds.{start_of};
 ghost use Rattle.replay.specs.Replay.{steps_of, run_of, replay_of};
 
-use answer::Answer;
+use answer::{Answer, Refusal};
 use machine::{Machine, Stepped};
 use reader::IMAGE_WORDS;
 use recovery::recover;
@@ -17,25 +17,11 @@ use step::step;
 pub fn run(start: &[u64], steps: &[u64]) -> Stepped
     ensures { result ≡ run_of (start_of start.now) (steps_of steps.now) }
 {
-    let first = Machine::start(start);
-    let mut answer = first.answer;
-    let mut machine = first.machine;
-    let count = steps.len() / 4;
-    let mut done = 0;
-    while done < count {
-        let at = done * 4;
-        let stepped = step(
-            machine,
-            steps[at],
-            steps[at + 1],
-            steps[at + 2],
-            steps[at + 3],
-        );
-        answer = stepped.answer;
-        machine = stepped.machine;
-        done += 1;
+    let mut stepped = Machine::start(start);
+    for words in steps.chunks_exact(4) {
+        stepped = step(stepped.machine, words[0], words[1], words[2], words[3]);
     }
-    Stepped { answer, machine }
+    stepped
 }
 
 // Runs the steps, cuts and recovers: the image of the cut and the recovered cells, which are the reference model's. 21 where a lent
@@ -45,13 +31,12 @@ pub fn replay(start: &[u64], steps: &[u64], image: &mut [u64], cells: &mut [u64]
         replay_of start.now steps.now image.old cells.old }
 {
     if image.len() != IMAGE_WORDS {
-        return Answer::WrongLength;
+        return Err(Refusal::WrongLength);
     }
     if cells.len() != CELLS {
-        return Answer::WrongLength;
+        return Err(Refusal::WrongLength);
     }
     let stepped = run(start, steps);
-    let machine = stepped.machine;
-    machine.cut(image);
+    let _ = stepped.machine.cut(image);
     recover(image, cells)
 }

@@ -1,7 +1,7 @@
 -- The slots of a run of LSNs: one of them is in a slot just where the first that is there is in the run.
 use Prim.Native.Nat.{ℕ, zero, suc, ◌+◌, ◌-◌, ◌%◌, ◌<◌}
-use mathlib.Core.Path.{◌≡◌, refl, sym}
-use mathlib.Core.Bool.{Bool, true, false, ◌||◌}
+use mathlib.Core.Path.{◌≡◌, sym}
+use mathlib.Core.Bool.{Bool, true, false, or-true}
 use mathlib.Core.Logic.{by_cases}
 use native.Mathlib.Omega.{arith}
 use native.Mathlib.Decide.{dec_lt, ℕ_discrete}
@@ -10,10 +10,6 @@ use borrow.Author.Tests.{lt-ltb, le-ltb, eq-eqb, ne_eqb}
 use Rattle.answer.specs.Lists.{some_below}
 use Rattle.answer.proofs.BelowLaws.{none-some_below}
 use Rattle.ring.specs.Ring.{slot_of}
-
-or_true : (b : Bool) → (b || true) ≡ true
-or_true true = refl
-or_true false = refl
 
 -- where `first` is the first number that a test holds of, it holds of one below n just where `first` is below n
 pub first_below : (test : ℕ → Bool) (first : ℕ) → ((i : ℕ) → i < first → test i ≡ false) → test first ≡ true → (n : ℕ)
@@ -25,7 +21,7 @@ first_below test first before here (suc n) =
     (λ h. rw (before n h, first_below test first before here n, le-ltb first n (omega arith), le-ltb first (suc n) (omega arith)))
     (λ h. by_cases (ℕ_discrete n first)
     (λ e. rw (e, here, lt-ltb first (suc first) (omega arith)))
-    (λ ne. rw (first_below test first before here n, lt-ltb first n (omega arith), lt-ltb first (suc n) (omega arith), or_true (test n))))
+    (λ ne. rw (first_below test first before here n, lt-ltb first n (omega arith), lt-ltb first (suc n) (omega arith), or-true (test n))))
 
 module _ (head slot : ℕ) where
   -- no LSN is in a slot over 63

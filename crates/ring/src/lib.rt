@@ -8,7 +8,7 @@ ghost use Rattle.ring.specs.Ring.{slot_of, next_slot_of};
 use sizes::SLOTS;
 
 // A log sequence number (document 01: rank), 1 to 1,000,000 in one thread's log. Never added to or compared with a lock's count.
-#[derive(Clone, Copy)]
+#[derive(Clone, Copy, PartialEq, Eq, PartialOrd, Ord, Debug)]
 pub struct Lsn(pub u32);
 
 // The slot of the LSN after the one in this slot: 0 after 63. Numbers from 64 on, which are no slots, answer the slot of the number after.
@@ -41,10 +41,6 @@ impl Lsn {
     pub fn since(self, earlier: Lsn) -> u32
         ensures { result ≡ self.0 - earlier.0 }
     {
-        if earlier.0 < self.0 {
-            self.0 - earlier.0
-        } else {
-            0
-        }
+        self.0.saturating_sub(earlier.0)
     }
 }

@@ -1,2 +1,3 @@
 -- Laws of what a text line does.
 pub mod ScriptLaws
+pub mod Cases

@@ -1,9 +1,10 @@
 -- A table of rows holds where one computed test over all of them says so.
-use Prim.Native.Nat.{ℕ}
-use mathlib.Core.Path.{◌≡◌, refl, ap₂}
-use mathlib.Core.Bool.{Bool, true, false, ◌&&◌}
+use mathlib.Core.Path.{◌≡◌, refl, sym, ap₂}
+use mathlib.Core.Bool.{Bool, true, false, ◌&&◌, false≢true}
 use mathlib.Core.List.{List, [], ◌∷◌, map, flatten}
-use lib.Dec.{T, eqb, eqb→eq}
+use lib.Pointwise.{pointwise}
+use Rattle.std.specs.Prelude.{nat_eq}
+use Rattle.std.specs.Cmp.Lexicographic.{same_text}
 use Rattle.answer.specs.Lists.{tab, some_below, count_below, set_from, mix_from}
 use Rattle.answer.specs.Refusals.{unless}
 use Rattle.cache.specs.Cache.{cache_of, store_of, flush_of, fence_of, evict_cell_of}
@@ -40,16 +41,9 @@ use Rattle.pair.specs.Pair.{may_take_name}
 use Rattle.order.specs.Check.{pairs_of, bad_place, are_not_pairs, check_tests, check_of}
 use Rattle.tables.specs.Points.{Row, ◌gives◌, found_of, asked_of}
 
--- two lists have the same words
-unfoldable pub same : List ℕ → List ℕ → Bool
-same [] [] = true
-same [] (y ∷ ys) = false
-same (x ∷ xs) [] = false
-same (x ∷ xs) (y ∷ ys) = eqb x y && same xs ys
-
 -- each row gives what is asked. What stands under it is unfolded with it: each definition of the machine and of recovery that rows reach.
 unfoldable pub all_given : List Row → Bool
-unfolding same flatten tab some_below count_below set_from mix_from unless cache_of store_of flush_of fence_of
+unfolding flatten tab some_below count_below set_from mix_from unless cache_of store_of flush_of fence_of
     evict_cell_of fresh_tail grown_tail room_tests flushed_tail fenced_tail released_tail words_of fresh_log is_live_slot append_of
     flush_log_of end_release_of event_of persist_words persist_slot persist_from fence_log_of evict_slot_tests evict_words_of drop_of
     logged_among logged_of goes_on oldest_region is_finished stretch_of holds present_from present_of clock_at join_of raised_of
@@ -61,24 +55,15 @@ unfolding same flatten tab some_below count_below set_from mix_from unless cache
     may_take lowest_from take_last take_next take_many undo_start undone has_left undone_by pairs_of may_take_name bad_place are_not_pairs check_tests
     check_of
 all_given [] = true
-all_given ((found gives asked) ∷ rows) = same found asked && all_given rows
+all_given ((found gives asked) ∷ rows) = pointwise nat_eq found asked && all_given rows
 
-both_true : (a b : Bool) → T (a && b) → T a × T b
-both_true true b holds = (tt, holds)
-both_true false b holds = absurd holds
+both_true : (a b : Bool) → (a && b) ≡ true → (a ≡ true) × (b ≡ true)
+both_true true b holds = (refl, holds)
+both_true false b holds = absurd (false≢true holds)
 
-same-equal : (xs ys : List ℕ) → T (same xs ys) → xs ≡ ys
-unfolding same
-same-equal [] [] holds = refl
-same-equal [] (y ∷ ys) holds = absurd holds
-same-equal (x ∷ xs) [] holds = absurd holds
-same-equal (x ∷ xs) (y ∷ ys) holds =
-    let parts = both_true (eqb x y) (same xs ys) holds in
-    ap₂ ◌∷◌ (eqb→eq x y parts.0) (same-equal xs ys parts.1)
-
-pub rows_hold : (rows : List Row) → T (all_given rows) → map found_of rows ≡ map asked_of rows
+pub rows_hold : (rows : List Row) → all_given rows ≡ true → map found_of rows ≡ map asked_of rows
 unfolding all_given
 rows_hold [] holds = refl
 rows_hold ((found gives asked) ∷ rows) holds =
-    let parts = both_true (same found asked) (all_given rows) holds in
-    ap₂ ◌∷◌ (same-equal found asked parts.0) (rows_hold rows parts.1)
+    let parts = both_true (pointwise nat_eq found asked) (all_given rows) holds in
+    ap₂ ◌∷◌ (same_text found asked (sym parts.0)) (rows_hold rows parts.1)

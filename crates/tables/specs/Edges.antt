@@ -2,18 +2,18 @@
 -- logged in one call and claimed undo orders, as a second table beside that of the P points: each row stands under the words that it is
 -- read from. Where steps get to an edge only after very many, or never, a row begins at a machine that is written down; images that no
 -- machine makes are written down too.
-use Rattle.std.specs.Prelude.{ℕ, ◌+◌, ◌-◌, ◌≡◌, cond, get_or, set, take, drop, replicate}
+use Rattle.std.specs.Prelude.{ℕ, ◌+◌, ◌-◌, ◌≡◌, cond, get_or, set, take, drop, replicate, Err, None, Some}
 use mathlib.Core.List.{List, [], ◌∷◌, ◌++◌, map, flatten}
 use Rattle.answer.specs.Answer.{number_of, value_of}
 use Rattle.answer.specs.Lists.{tab}
-use Rattle.answer.specs.declared.Answer.TheVariants.{NoSuchKind, NoSuchThread, NoSuchPlace, UnusedField, NoSuchWordCount}
-use Rattle.answer.specs.declared.Answer.TheVariants.{LogFull, LsnsUsedUp, Releasing, Race, NotLogged, EntryNotDurable}
-use Rattle.answer.specs.declared.Answer.TheVariants.{LockHeld, LockNotHeld, NotReleasing}
-use Rattle.answer.specs.declared.Answer.TheVariants.{NothingToPrune, EarlierReleaseNotPruned, CellNotDurable, NoLiveEntry, Unreadable}
-use Rattle.answer.specs.declared.Answer.TheVariants.{WrongLength, BadHead, BadEntry, Cyclic, TooManyCells}
-use Rattle.answer.specs.declared.Answer.TheVariants.{NotPairs, NotAnOrder}
+use Rattle.answer.specs.declared.Refusal.{Refusal}
+use Rattle.answer.specs.declared.Refusal.TheVariants.{NoSuchKind, NoSuchThread, NoSuchPlace, UnusedField, NoSuchWordCount}
+use Rattle.answer.specs.declared.Refusal.TheVariants.{LogFull, LsnsUsedUp, Releasing, Race, NotLogged, EntryNotDurable}
+use Rattle.answer.specs.declared.Refusal.TheVariants.{LockHeld, LockNotHeld, NotReleasing}
+use Rattle.answer.specs.declared.Refusal.TheVariants.{NothingToPrune, EarlierReleaseNotPruned, CellNotDurable, NoLiveEntry, Unreadable}
+use Rattle.answer.specs.declared.Refusal.TheVariants.{WrongLength, BadHead, BadEntry, Cyclic, TooManyCells}
+use Rattle.answer.specs.declared.Refusal.TheVariants.{NotPairs, NotAnOrder}
 use Rattle.ring.specs.Ring.{lsn, next_slot_of}
-use Rattle.tail.specs.declared.Releasing.TheVariants.{Nothing, Lock}
 use Rattle.entry.specs.Words.{zeros, words_of}
 use Rattle.reader.specs.Stretch.{stretch_of}
 use Rattle.entry.specs.declared.Entry.{Entry}
@@ -21,7 +21,7 @@ use Rattle.accesses.specs.Accesses.{logged_cell_of}
 use Rattle.machine.specs.Holds.{start_of, log_of, with_log, with_accesses}
 use Rattle.machine.specs.Image.{image_of, cut_of}
 use Rattle.machine.specs.Runs.{Step, step_with, after, answers}
-use Rattle.machine.specs.declared.Machine.{Machine}
+use Rattle.machine.specs.State.{Machine}
 use Rattle.script.specs.Script.{script_of}
 use Rattle.batch.specs.Batch.{log_cells_of}
 use Rattle.recovery.specs.Recover.{recover_of}
@@ -57,7 +57,7 @@ from_slots slots thread rank =
       cached = replicate 64 zeros;
       persisted = slots;
       head = lsn rank;
-      tail = record { next = lsn rank; durable = lsn (rank - 1); flushed = lsn (rank - 1); releasing = Nothing };
+      tail = record { next = lsn rank; durable = lsn (rank - 1); flushed = lsn (rank - 1); releasing = None };
     })
 
 -- the same with untouched slots: nothing reads what else they hold
@@ -135,7 +135,7 @@ input_rows =
     (asks (after (from_rank 3 63) (LOG 3 5 ∷ [])) (tab 7 (λ count. EVICTWORDS 3 63 count)) gives 19 ∷ 0 ∷ 0 ∷ 0 ∷ 0 ∷ 19 ∷ 19 ∷ []) ∷
     (asks start (tab 7 (λ count. EVICTWORDS 3 63 count)) gives 19 ∷ 18 ∷ 18 ∷ 18 ∷ 18 ∷ 19 ∷ 19 ∷ []) ∷
     -- "20: the program's text line is unreadable", which no step answers
-    (number_of Unreadable ∷ [] gives 20 ∷ []) ∷ []
+    (number_of (Err Unreadable) ∷ [] gives 20 ∷ []) ∷ []
 
 -- ---- refused because of the state
 
@@ -334,7 +334,7 @@ closes_early =
         next = log.tail.next;
         durable = log.tail.durable;
         flushed = log.tail.flushed;
-        releasing = Lock 0;
+        releasing = Some 0;
       };
     })
 
@@ -405,6 +405,10 @@ refusals =
     (FLUSHLOG 0 ∷ step 9 0 1 0 ∷ RELEASE 0 0 ∷ FENCE 0 ∷ RELEASE 0 1 ∷ RELEASE 0 0 ∷ ACQUIRE 1 0 ∷ []) ++
     (PRUNE 1 ∷ FLUSHLOG 1 ∷ FENCE 1 ∷ PRUNE 1 ∷ LOG 0 9 ∷ [])
 
+-- the number beside a refusal
+abbrev pub beside : Refusal → ℕ
+beside refusal = value_of (Err refusal)
+
 unfoldable pub given_rows : List Row
 given_rows =
     -- "all with answer 0 and value 0 but `n=2 answer=0 value=2` and `n=11 answer=0 value=3`; then `cell=5 holds=7`"; document 02: "lines 4
@@ -432,11 +436,11 @@ given_rows =
     (0 ∷ 0 ∷ 0 ∷ 2 ∷ 0 ∷ 0 ∷ 0 ∷ 0 ∷ []) ++
     (0 ∷ 0 ∷ 0 ∷ 3 ∷ 0 ∷ 0 ∷ 1 ∷ []) ++
     (0 ∷ 0 ∷ 3 ∷ 2 ∷ 4 ∷ [])) ∷
-    (map value_of (NoSuchKind ∷ NoSuchThread ∷ NoSuchPlace ∷ UnusedField ∷ NoSuchWordCount ∷ []) gives replicate 5 0) ∷
-    (map value_of (LogFull ∷ LsnsUsedUp ∷ Releasing ∷ Race ∷ NotLogged ∷ EntryNotDurable ∷ []) gives replicate 6 0) ∷
-    (map value_of (LockHeld ∷ LockNotHeld ∷ NotReleasing ∷ NothingToPrune ∷ []) gives replicate 4 0) ∷
-    (map value_of (EarlierReleaseNotPruned ∷ CellNotDurable ∷ NoLiveEntry ∷ []) gives replicate 3 0) ∷
-    (map value_of (Unreadable ∷ WrongLength ∷ BadHead ∷ BadEntry ∷ Cyclic ∷ TooManyCells ∷ NotPairs ∷ NotAnOrder ∷ []) gives
+    (map beside (NoSuchKind ∷ NoSuchThread ∷ NoSuchPlace ∷ UnusedField ∷ NoSuchWordCount ∷ []) gives replicate 5 0) ∷
+    (map beside (LogFull ∷ LsnsUsedUp ∷ Releasing ∷ Race ∷ NotLogged ∷ EntryNotDurable ∷ []) gives replicate 6 0) ∷
+    (map beside (LockHeld ∷ LockNotHeld ∷ NotReleasing ∷ NothingToPrune ∷ []) gives replicate 4 0) ∷
+    (map beside (EarlierReleaseNotPruned ∷ CellNotDurable ∷ NoLiveEntry ∷ []) gives replicate 3 0) ∷
+    (map beside (Unreadable ∷ WrongLength ∷ BadHead ∷ BadEntry ∷ Cyclic ∷ TooManyCells ∷ NotPairs ∷ NotAnOrder ∷ []) gives
     replicate 8 0) ∷ []
 
 -- ---- many cells logged in one call

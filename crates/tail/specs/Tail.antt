@@ -1,8 +1,7 @@
 -- The thread's record: how far its log has come, and the lock that it is closing on.
+use Rattle.std.specs.Prelude.{None, Option, Some}
 use Rattle.std.specs.Prelude.{ℕ, ◌-◌, Bool, true, false, eqb}
 use Rattle.ring.specs.Ring.{lsn}
-use Rattle.tail.specs.declared.Releasing.{Releasing}
-use Rattle.tail.specs.declared.Releasing.TheVariants.{Nothing, Lock}
 use Rattle.tail.specs.declared.Tail.{Tail}
 
 -- "Live entries have rank head or more": how many there are
@@ -14,18 +13,18 @@ abbrev pub unfenced : Tail → ℕ
 unfenced tail = tail.flushed.0 - tail.durable.0
 
 -- the thread is closing, in document 01's words
-abbrev pub is_releasing : Releasing → Bool
-is_releasing Nothing = false
-is_releasing (Lock lock) = true
+abbrev pub is_releasing : Option ℕ → Bool
+is_releasing None = false
+is_releasing (Some lock) = true
 
 -- the thread is closing on this lock
-abbrev pub is_releasing_lock : Releasing → ℕ → Bool
-is_releasing_lock Nothing lock = false
-is_releasing_lock (Lock held) lock = eqb held lock
+abbrev pub is_releasing_lock : Option ℕ → ℕ → Bool
+is_releasing_lock None lock = false
+is_releasing_lock (Some held) lock = eqb held lock
 
 -- the record of a thread that has made no entry
 unfoldable pub fresh_tail : Tail
-fresh_tail = record { next = lsn 1; durable = lsn 0; flushed = lsn 0; releasing = Nothing }
+fresh_tail = record { next = lsn 1; durable = lsn 0; flushed = lsn 0; releasing = None }
 
 -- FLUSHLOG: "marks all of the thread's entries made so far"
 unfoldable pub flushed_tail : Tail → Tail
@@ -51,5 +50,5 @@ released_tail tail = record {
   next = tail.next;
   durable = tail.durable;
   flushed = tail.flushed;
-  releasing = Nothing;
+  releasing = None;
 }

@@ -1,5 +1,6 @@
 -- A log that a list of steps may begin with: no entry is live, and no persisted slot holds an LSN from the head on, whatever else the
 -- slots hold.
+use Rattle.std.specs.Prelude.{None}
 use Prim.Native.Nat.{ℕ, suc, ◌+◌, ◌≤◌}
 use mathlib.Core.Bool.{false, true≢false}
 use mathlib.Core.Path.{◌≡◌, refl, sym, ap, ◌∙◌}
@@ -9,7 +10,6 @@ use lib.Dec.{eqb}
 use lib.ListN.{length, get_or-replicate}
 use Rattle.ring.specs.Ring.{slot_count, last_lsn, slot_of}
 use Rattle.tail.specs.Tail.{fresh_tail}
-use Rattle.tail.specs.declared.Releasing.TheVariants.{Nothing}
 use Rattle.entry.specs.Words.{zeros, words_of}
 use Rattle.thread_log.specs.Entries.{fresh_log}
 use Rattle.reader.specs.Stretch.{holds}
@@ -28,7 +28,7 @@ pub record Idle (log : Log) : Type 0 where
   pub next_is : log.tail.next.0 ≡ log.head.0
   pub durable_is : suc log.tail.durable.0 ≡ log.head.0
   pub flushed_is : suc log.tail.flushed.0 ≡ log.head.0
-  pub releases_nothing : log.tail.releasing ≡ Nothing
+  pub releases_nothing : log.tail.releasing ≡ None
   pub holds_none : (number : ℕ) → log.head.0 ≤ number → holds (words_of log.persisted) number ≡ false
 
 -- an idle log keeps the invariant of a log, whatever its thread's entries said before

@@ -1,5 +1,6 @@
 -- The invariant of one thread's log, beside the entries that the thread ever made, and that every change of a log keeps it. It is the
 -- invariant of slots at four words an entry, the last of which tells the LSN.
+use Rattle.std.specs.Prelude.{Option}
 use Prim.Native.Nat.{ℕ, ◌+◌, ◌-◌, ◌<◌, ◌≤◌}
 use mathlib.Core.Bool.{true}
 use mathlib.Core.Path.{◌≡◌, refl, ap, sym, ◌∙◌}
@@ -13,7 +14,6 @@ use Rattle.answer.proofs.RefusalLaws.{AllFail}
 use Rattle.ring.specs.Ring.{slot_count, last_lsn, lsn, slot_of}
 use Rattle.tail.specs.Tail.{unfenced, flushed_tail, fenced_tail}
 use Rattle.append.specs.Append.{grown_tail, room_tests}
-use Rattle.tail.specs.declared.Releasing.{Releasing}
 use Rattle.tail.specs.declared.Tail.{Tail}
 use Rattle.entry.specs.Words.{entry_of, zeros, slot_words, words_of}
 use Rattle.thread_log.specs.Entries.{entry_at, kept_at, with_tail, is_live_slot, append_tests, append_of}
@@ -120,7 +120,7 @@ append_room log fails =
 
 module _ (log : Log) (says : ℕ → Payload) (inv : LogHolds log says) where
   -- a log with one entry more, which says this, keeps the invariant
-  pub append-holds : (payload : Payload) (closes : Releasing) (then : ℕ → Payload) → AllFail (append_tests log)
+  pub append-holds : (payload : Payload) (closes : Option ℕ) (then : ℕ → Payload) → AllFail (append_tests log)
       → then log.tail.next.0 ≡ payload → ((number : ℕ) → number < log.tail.next.0 → then number ≡ says number)
       → LogHolds (append_of log payload closes) then
   unfolding append_of grown_tail

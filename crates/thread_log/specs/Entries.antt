@@ -1,19 +1,24 @@
 -- One log: its entries, whatever they say, and what appends, flushes, fences, evictions and dropped entries do to it.
+use Rattle.std.specs.Prelude.{Option, Ok}
 use Rattle.std.specs.Prelude.{ℕ, zero, suc, ◌+◌, Bool, cond, not, ◌&&◌, List, [], ◌∷◌, get_or, set, replicate, eqb, leb}
 use Rattle.sizes.specs.Sizes.{entry_words}
+use Rattle.answer.specs.Answer.{Answer}
 use Rattle.answer.specs.Lists.{some_below}
 use Rattle.answer.specs.Refusals.{Test, ◌⇒◌, unless}
-use Rattle.answer.specs.declared.Answer.TheVariants.{Accepted, NoLiveEntry}
+use Rattle.answer.specs.declared.Refusal.TheVariants.{NoLiveEntry}
 use Rattle.ring.specs.Ring.{slot_count, lsn, slot_of}
 use Rattle.entry.specs.Words.{entry_of, zeros, torn_of}
 use Rattle.tail.specs.Tail.{live_of, unfenced, fresh_tail, flushed_tail, fenced_tail}
 use Rattle.append.specs.Append.{grown_tail, room_tests}
 use Rattle.entry.specs.declared.Entry.{Entry}
 use Rattle.entry.specs.declared.Payload.{Payload}
-use Rattle.tail.specs.declared.Releasing.{Releasing}
 use Rattle.tail.specs.declared.Tail.{Tail}
-use Rattle.thread_log.specs.declared.Changed.{Changed}
 use Rattle.thread_log.specs.declared.Log.{Log}
+
+-- what a change of a log answers, beside the log after it
+pub record Changed : Type 0 where
+  pub answer : Answer
+  pub log : Log
 
 -- "An untouched slot holds four zeros; heads start at 1."
 unfoldable pub fresh_log : Log
@@ -44,7 +49,7 @@ abbrev pub append_tests : Log → List Test
 append_tests log = room_tests log.tail log.head.0
 
 -- the log with one entry more, of the next LSN, which begins to release this lock, if any
-unfoldable pub append_of : Log → Payload → Releasing → Log
+unfoldable pub append_of : Log → Payload → Option ℕ → Log
 append_of log payload closes = record {
   cached = set log.cached (slot_of log.tail.next.0) (entry_of log.tail.next payload);
   persisted = log.persisted;
@@ -53,12 +58,12 @@ append_of log payload closes = record {
 }
 
 -- an append: the log with the entry, beside its rank, or a refusal and the log as it was
-unfoldable pub appended_of : Log → Payload → Releasing → Changed
+unfoldable pub appended_of : Log → Payload → Option ℕ → Changed
 appended_of log payload closes =
     unless
     (λ answer. record { answer = answer; log = log })
     (append_tests log)
-    (record { answer = Accepted log.tail.next.0; log = append_of log payload closes })
+    (record { answer = Ok log.tail.next.0; log = append_of log payload closes })
 
 -- the log with another record of its thread
 abbrev pub with_tail : Log → Tail → Log
@@ -114,7 +119,7 @@ evicted_words_of log slot count =
     unless
     (λ answer. record { answer = answer; log = log })
     (evict_slot_tests log slot)
-    (record { answer = Accepted 0; log = evict_words_of log slot count })
+    (record { answer = Ok 0; log = evict_words_of log slot count })
 
 -- the oldest so many entries dropped: "moving the head past" them
 unfoldable pub drop_of : Log → ℕ → Log

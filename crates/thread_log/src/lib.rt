@@ -6,14 +6,14 @@ ghost use Rattle.std.specs.Prelude.{◌≡◌, ◌<◌};
 ghost use Rattle.thread_log.specs.Entries.{fresh_log, appended_of, flush_log_of, fence_log_of, evicted_words_of};
 ghost use Rattle.thread_log.specs.Entries.{drop_to_of};
 
-use answer::Answer;
-use append::append_to;
+use answer::{Answer, Refusal};
 use entry::{Entry, Payload};
 use ring::{Lsn, has_slot, next_slot, slot_after};
-use sizes::{ENTRY_WORDS, SLOTS};
-use tail::{Releasing, Tail};
+use sizes::SLOTS;
+use tail::Tail;
 
-// A thread's log: 64 slots, cached (document 01: seen) and persisted (kept), the head and the thread's record.
+// A thread's log: 64 slots, cached (document 01: seen) and persisted (kept), the head and the thread's record. Two arrays, since a fence
+// and an eviction copy from one to the other, and the definitions name each by itself.
 #[derive(Clone, Copy)]
 pub struct Log {
     pub cached: [Entry; SLOTS],
@@ -22,15 +22,9 @@ pub struct Log {
     pub tail: Tail,
 }
 
-// What a change of a log answers, beside the log after it.
-#[derive(Clone, Copy)]
-pub struct Changed {
-    pub answer: Answer,
-    pub log: Log,
-}
-
 impl Log {
     // The log of a thread that has made no entry.
+    #[tactic(auto, unfolding(crate::specs::Entries::fresh_log, tail::specs::Tail::fresh_tail))]
     pub fn new() -> Log
         ensures { result ≡ fresh_log }
     {
@@ -40,112 +34,73 @@ impl Log {
             lsn: Lsn(0),
             value: 0,
         };
-        let tail = Tail {
-            next: Lsn(1),
-            durable: Lsn(0),
-            flushed: Lsn(0),
-            releasing: Releasing::Nothing,
-        };
-        let cached = [zeros; SLOTS];
-        let persisted = [zeros; SLOTS];
         Log {
-            cached,
-            persisted,
+            cached: [zeros; SLOTS],
+            persisted: [zeros; SLOTS],
             head: Lsn(1),
-            tail,
+            tail: Tail {
+                next: Lsn(1),
+                durable: Lsn(0),
+                flushed: Lsn(0),
+                releasing: None,
+            },
         }
     }
 
-    // The log with one entry more, beside its LSN; or a refusal (6, then 5), and the log as it was. A RELEASE entry closes its lock.
-    pub fn append(mut self, payload: Payload, closes: Releasing) -> Changed
-        ensures { result ≡ appended_of self payload closes }
+    // One entry more: answers its LSN; or a refusal (6, then 5), which leaves the log as it was. A RELEASE entry closes its lock.
+    pub fn append(&mut self, payload: Payload, closes: Option<u8>) -> Answer
+        ensures { record { answer = result; log = self.new } ≡ appended_of self.old payload closes }
     {
-        let before = self.tail;
-        let next = before.next;
-        let grown = append_to(before, self.head, closes);
-        let answer = grown.answer;
-        let tail = grown.tail;
-        if answer::number(answer) != 0 {
-            return Changed { answer, log: self };
-        }
-        let slot = next.0 as usize % SLOTS;
-        self.cached[slot] = Entry {
+        let lsn = self.tail.next;
+        let number = append::append(&mut self.tail, self.head, closes)?;
+        self.cached[lsn.0 as usize % SLOTS] = Entry {
             kind: payload.kind,
             place: payload.place,
-            lsn: next,
+            lsn,
             value: payload.value,
         };
-        self.tail = tail;
-        Changed { answer, log: self }
+        Ok(number)
     }
 
     // FLUSHLOG: the entries made so far are flushed.
-    pub fn flush(mut self) -> Log
-        ensures { result ≡ flush_log_of self }
+    #[tactic(auto, unfolding(crate::specs::Entries::flush_log_of))]
+    pub fn flush(&mut self)
+        ensures { self.new ≡ flush_log_of self.old }
     {
-        let before = self.tail;
-        let flushed = before.flushed_all();
-        self.tail = flushed;
-        self
+        self.tail = self.tail.flushed_all();
     }
 
     // FENCE: the flushed entries become persisted and durable.
-    pub fn fence(mut self) -> Log
-        ensures { result ≡ fence_log_of self }
+    pub fn fence(&mut self)
+        ensures { self.new ≡ fence_log_of self.old }
     {
-        let before = self.tail;
-        let count = before.unfenced() as usize;
-        let mut slot = slot_after(before.durable, 0);
-        let mut done = 0;
-        while done < count {
+        // by the slots of the ring, each found by `next_slot` from the one before
+        let mut slot = slot_after(self.tail.durable, 0);
+        for done in 0..self.tail.unfenced() {
             slot = next_slot(slot as u8);
-            let entry = self.cached[slot];
-            self.persisted[slot] = entry;
-            done += 1;
+            self.persisted[slot] = self.cached[slot];
         }
-        let fenced = before.fenced();
-        self.tail = fenced;
-        self
+        self.tail = self.tail.fenced();
     }
 
     // EVICTWORDS, and EVICTLOG with all words: the first so many words of the entry in the slot become persisted, and not durable; or 18
     // where no live one sits there, and the log as it was.
-    pub fn evict_words(mut self, slot: usize, count: usize) -> Changed
-        ensures { result ≡ evicted_words_of self slot count }
+    pub fn evict_words(&mut self, slot: usize, count: usize) -> Answer
+        ensures { record { answer = result; log = self.new } ≡ evicted_words_of self.old slot count }
     {
-        let head = self.head;
-        let tail = self.tail;
-        if has_slot(head, tail.live_count(head), slot) {
-            let entry = self.cached[slot];
-            let before = self.persisted[slot];
-            let torn = before.torn(entry, count);
-            self.persisted[slot] = torn;
-            Changed {
-                answer: Answer::Accepted(0),
-                log: self,
-            }
-        } else {
-            Changed {
-                answer: Answer::NoLiveEntry,
-                log: self,
-            }
+        if !has_slot(self.head, self.tail.live_count(self.head), slot) {
+            return Err(Refusal::NoLiveEntry);
         }
+        self.persisted[slot] = self.persisted[slot].torn(self.cached[slot], count);
+        Ok(0)
     }
 
     // All entries before this LSN are dropped; one that is neither live nor the next changes nothing.
-    pub fn drop_to(mut self, head: Lsn) -> Log
-        ensures { result ≡ drop_to_of self head.0 }
+    pub fn drop_to(&mut self, head: Lsn)
+        ensures { self.new ≡ drop_to_of self.old head.0 }
     {
-        let first = self.head;
-        let tail = self.tail;
-        let next = tail.next;
-        if head.0 < first.0 {
-            return self;
+        if self.head.0 <= head.0 && head.0 <= self.tail.next.0 {
+            self.head = head;
         }
-        if next.0 < head.0 {
-            return self;
-        }
-        self.head = head;
-        self
     }
 }

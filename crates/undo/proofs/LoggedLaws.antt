@@ -1,4 +1,5 @@
 -- The current region's entry of a cell, read on the entries that the thread ever made.
+use Rattle.std.specs.Prelude.{None, Option, Some}
 use Prim.Native.Nat.{ℕ, zero, suc, ◌+◌, ◌<◌, ◌≤◌}
 use mathlib.Core.Bool.{Bool, true, false, cond}
 use mathlib.Core.Path.{◌≡◌, refl, ap, sym, ◌∙◌, subst}
@@ -9,12 +10,11 @@ use native.Mathlib.Omega.{arith}
 use borrow.Author.Tests.{eqb-true, eqb-false}
 use lib.Dec.{eqb}
 use Rattle.ring.specs.Ring.{lsn}
+use Rattle.ring.specs.declared.Lsn.{Lsn}
 use Rattle.thread_log.specs.Entries.{live_count}
 use Rattle.undo.specs.Regions.{is_acquire, is_release, searched, logged_among, logged_of}
 use Rattle.event.specs.declared.Event.{Event}
 use Rattle.event.specs.declared.Event.TheVariants.{Empty, Store, Acquire, Release}
-use Rattle.undo.specs.declared.Found.{Found}
-use Rattle.undo.specs.declared.Found.TheVariants.{Nowhere, At}
 use Rattle.thread_log.specs.declared.Log.{Log}
 use Rattle.undo.proofs.UndoInvariant.{UndoHolds}
 use Rattle.undo.proofs.RegionLaws.{moved, live-event}
@@ -63,15 +63,15 @@ logged_before events first last cell number acquires releases logged = record {
 }
 
 -- one entry more, of LSN `last`, with what the search found among those before it
-searched-at : (events : ℕ → Event) (first last cell number : ℕ) (older : Found) → first ≤ last
-    → (older ≡ At (lsn number) → LoggedAt events first last cell number) → (event : Event) → events last ≡ event
-    → searched event cell (At (lsn last)) older ≡ At (lsn number) → LoggedAt events first (suc last) cell number
+searched-at : (events : ℕ → Event) (first last cell number : ℕ) (older : Option Lsn) → first ≤ last
+    → (older ≡ Some (lsn number) → LoggedAt events first last cell number) → (event : Event) → events last ≡ event
+    → searched event cell (Some (lsn last)) older ≡ Some (lsn number) → LoggedAt events first (suc last) cell number
 searched-at events first last cell number older from before Empty is found = absurd (never (cc))
 searched-at events first last cell number older from before (Acquire lock count) is found = absurd (never (cc))
 searched-at events first last cell number older from before (Release lock count) is found = absurd (never (cc))
 searched-at events first last cell number older from before (Store logged old) is found = by-cell (eqb logged cell) refl found
   where
-    by-cell : (same : Bool) → eqb logged cell ≡ same → cond same (At (lsn last)) older ≡ At (lsn number)
+    by-cell : (same : Bool) → eqb logged cell ≡ same → cond same (Some (lsn last)) older ≡ Some (lsn number)
         → LoggedAt events first (suc last) cell number
     by-cell true same found =
         let here : events last ≡ Store cell old = is ∙ ap (λ place. Store place old) (eqb-true logged cell same) in
@@ -102,8 +102,8 @@ ended_by events first last cell ends number old from to is =
     absurd (⊎_elim (λ acquires. never (cc)) (λ releases. never (cc)) ends))
     (λ differs. record { later = last; later_from = omega arith; later_to = omega arith; later_ends = ends })
 
-searched_nowhere : (events : ℕ → Event) (first last cell : ℕ) (older : Found) → (older ≡ Nowhere → NotLogged events first last cell)
-    → (event : Event) → events last ≡ event → event ≢ Empty → searched event cell (At (lsn last)) older ≡ Nowhere
+searched_nowhere : (events : ℕ → Event) (first last cell : ℕ) (older : Option Lsn) → (older ≡ None → NotLogged events first last cell)
+    → (event : Event) → events last ≡ event → event ≢ Empty → searched event cell (Some (lsn last)) older ≡ None
     → NotLogged events first (suc last) cell
 searched_nowhere events first last cell older before Empty said not_empty found = absurd (not_empty refl)
 searched_nowhere events first last cell older before (Acquire lock count) said not_empty found =
@@ -112,7 +112,7 @@ searched_nowhere events first last cell older before (Release lock count) said n
     ended_by events first last cell (inr (ap is_release said))
 searched_nowhere events first last cell older before (Store logged kept) said not_empty found = by-cell (eqb logged cell) refl found
   where
-    by-cell : (same : Bool) → eqb logged cell ≡ same → cond same (At (lsn last)) older ≡ Nowhere → NotLogged events first (suc last) cell
+    by-cell : (same : Bool) → eqb logged cell ≡ same → cond same (Some (lsn last)) older ≡ None → NotLogged events first (suc last) cell
     by-cell true same found number old from to is = absurd (never (cc))
     by-cell false differs found number old from to is =
         by_cases
@@ -123,7 +123,7 @@ searched_nowhere events first last cell older before (Store logged kept) said no
         record { later = ended.later; later_from = ended.later_from; later_to = omega arith; later_ends = ended.later_ends })
 
 module _ (log : Log) (events : ℕ → Event) (inv : UndoHolds log events) (cell : ℕ) where
-  among-at : (count : ℕ) → count ≤ live_count log → (number : ℕ) → logged_among log cell count ≡ At (lsn number)
+  among-at : (count : ℕ) → count ≤ live_count log → (number : ℕ) → logged_among log cell count ≡ Some (lsn number)
       → LoggedAt events log.head.0 (log.head.0 + count) cell number
   unfolding logged_among
   among-at zero most number found = absurd (never (cc))
@@ -144,7 +144,7 @@ module _ (log : Log) (events : ℕ → Event) (inv : UndoHolds log events) (cell
       (rw (live-event log events inv count last refl (omega arith)) at found))
 
   -- the entry that the current region has of a cell
-  pub logged-at : (number : ℕ) → logged_of log cell ≡ At (lsn number) → LoggedAt events log.head.0 log.tail.next.0 cell number
+  pub logged-at : (number : ℕ) → logged_of log cell ≡ Some (lsn number) → LoggedAt events log.head.0 log.tail.next.0 cell number
   unfolding logged_of
   logged-at number found =
       subst
@@ -153,7 +153,7 @@ module _ (log : Log) (events : ℕ → Event) (inv : UndoHolds log events) (cell
       (among-at (live_count log) (omega arith) number found)
 
   among-nowhere : ((number : ℕ) → log.head.0 ≤ number → number < log.tail.next.0 → events number ≢ Empty) → (count : ℕ)
-      → count ≤ live_count log → logged_among log cell count ≡ Nowhere → NotLogged events log.head.0 (log.head.0 + count) cell
+      → count ≤ live_count log → logged_among log cell count ≡ None → NotLogged events log.head.0 (log.head.0 + count) cell
   unfolding logged_among
   among-nowhere not_empty zero most found = λ number old from to is. absurd (omega arith)
   among-nowhere not_empty (suc count) most found =
@@ -173,7 +173,7 @@ module _ (log : Log) (events : ℕ → Event) (inv : UndoHolds log events) (cell
 
   -- where the current region has no entry of a cell, each live entry of the cell belongs to a region before it
   pub logged-nowhere : ((number : ℕ) → log.head.0 ≤ number → number < log.tail.next.0 → events number ≢ Empty)
-      → logged_of log cell ≡ Nowhere → NotLogged events log.head.0 log.tail.next.0 cell
+      → logged_of log cell ≡ None → NotLogged events log.head.0 log.tail.next.0 cell
   unfolding logged_of
   logged-nowhere not_empty found =
       subst

@@ -1,11 +1,10 @@
 -- An undo log with an event more, what its live entries say, and the end of closing.
 use Rattle.std.specs.Prelude.{ℕ, ◌+◌, cond}
 use Rattle.answer.specs.Answer.{is_accepted}
-use Rattle.answer.specs.declared.Answer.{Answer}
+use Rattle.answer.specs.Answer.{Answer}
 use Rattle.entry.specs.Words.{said_by}
 use Rattle.tail.specs.Tail.{released_tail}
-use Rattle.thread_log.specs.Entries.{entry_at, append_of, appended_of, with_tail}
-use Rattle.thread_log.specs.declared.Changed.{Changed}
+use Rattle.thread_log.specs.Entries.{Changed, entry_at, append_of, appended_of, with_tail}
 use Rattle.thread_log.specs.declared.Log.{Log}
 use Rattle.event.specs.Events.{payload_of, event_of, closes_of}
 use Rattle.event.specs.declared.Event.{Event}

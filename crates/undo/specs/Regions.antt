@@ -1,17 +1,17 @@
 -- The regions of one thread's log. "A region is a run of one thread's entries: it begins at the start, with an ACQUIRE, or after a
 -- RELEASE, and ends before the next ACQUIRE or with a RELEASE." The head always stands where a region begins.
+use Rattle.std.specs.Prelude.{None, Option, Some}
 use Rattle.std.specs.Prelude.{ℕ, zero, suc, ◌+◌, ◌-◌, Bool, true, false, cond, not, ◌&&◌, List, [], ◌∷◌, eqb, ltb}
 use Rattle.answer.specs.Refusals.{Test, ◌⇒◌}
-use Rattle.answer.specs.declared.Answer.TheVariants.{Releasing, NotLogged, EntryNotDurable}
+use Rattle.answer.specs.declared.Refusal.TheVariants.{Releasing, NotLogged, EntryNotDurable}
 use Rattle.ring.specs.Ring.{lsn}
+use Rattle.ring.specs.declared.Lsn.{Lsn}
 use Rattle.tail.specs.Tail.{is_releasing}
 use Rattle.thread_log.specs.Entries.{live_count}
 use Rattle.thread_log.specs.declared.Log.{Log}
 use Rattle.undo.specs.Entering.{live_event}
 use Rattle.event.specs.declared.Event.{Event}
 use Rattle.event.specs.declared.Event.TheVariants.{Empty, Store, Acquire, Release}
-use Rattle.undo.specs.declared.Found.{Found}
-use Rattle.undo.specs.declared.Found.TheVariants.{Nowhere, At}
 use Rattle.undo.specs.declared.Region.{Region}
 
 abbrev pub is_acquire : Event → Bool
@@ -28,20 +28,20 @@ is_release (Release lock count) = true
 
 -- where an entry of a region and the entries older than it lead the search for a cell's entry: a STORE of the cell is found, another
 -- STORE passes the search on, and at an ACQUIRE or a RELEASE the region has no older entry of a cell
-abbrev pub searched : Event → ℕ → Found → Found → Found
-searched Empty cell here older = Nowhere
+abbrev pub searched : Event → ℕ → Option Lsn → Option Lsn → Option Lsn
+searched Empty cell here older = None
 searched (Store logged old) cell here older = cond (eqb logged cell) here older
-searched (Acquire lock count) cell here older = Nowhere
-searched (Release lock count) cell here older = Nowhere
+searched (Acquire lock count) cell here older = None
+searched (Release lock count) cell here older = None
 
 -- the cell's entry in the run that the first so many live entries end in
-unfoldable pub logged_among : Log → ℕ → ℕ → Found
-logged_among log cell zero = Nowhere
+unfoldable pub logged_among : Log → ℕ → ℕ → Option Lsn
+logged_among log cell zero = None
 logged_among log cell (suc count) =
-    searched (live_event log count) cell (At (lsn (log.head.0 + count))) (logged_among log cell count)
+    searched (live_event log count) cell (Some (lsn (log.head.0 + count))) (logged_among log cell count)
 
 -- the cell's entry in the current region: "the thread's run that has not ended; after a RELEASE entry there is none until the next entry"
-unfoldable pub logged_of : Log → ℕ → Found
+unfoldable pub logged_of : Log → ℕ → Option Lsn
 logged_of log cell = logged_among log cell (live_count log)
 
 -- how many of the next so many live entries, from this one on, go on the region that stands before them
@@ -78,9 +78,9 @@ oldest_of log = record {
 abbrev pub is_closing : Log → Bool
 is_closing log = is_releasing log.tail.releasing
 
-abbrev pub is_found : Found → Bool
-is_found Nowhere = false
-is_found (At number) = true
+abbrev pub is_found : Option Lsn → Bool
+is_found None = false
+is_found (Some number) = true
 
 -- 10 where not, and what a LOG of the cell asks after 7: "the cell has .. an entry in this thread's current region"
 abbrev pub is_logged : Log → ℕ → Bool
@@ -91,9 +91,9 @@ abbrev pub is_undurable_up_to : Log → ℕ → Bool
 is_undurable_up_to log number = ltb log.tail.durable.0 number
 
 -- 11 for a STORE: up to the cell's entry
-abbrev pub is_undurable_found : Log → Found → Bool
-is_undurable_found log Nowhere = false
-is_undurable_found log (At number) = is_undurable_up_to log number.0
+abbrev pub is_undurable_found : Log → Option Lsn → Bool
+is_undurable_found log None = false
+is_undurable_found log (Some number) = is_undurable_up_to log number.0
 
 -- STORE 7, 10, 11, asked of the thread's log
 abbrev pub store_tests_on : Log → ℕ → List Test

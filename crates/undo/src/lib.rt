@@ -4,19 +4,13 @@
 ghost use Rattle.std.specs.Prelude.{◌≡◌};
 ghost use Rattle.answer.specs.Refusals.{first_refusal};
 ghost use Rattle.undo.specs.Entering.{entered_of};
-ghost use Rattle.undo.specs.Regions.{logged_of, is_found, is_undurable_found, store_tests_on};
+ghost use Rattle.undo.specs.Regions.{logged_of, store_tests_on};
 
-use answer::Answer;
-use event::{Event, event_of};
+use answer::{Answer, Refusal};
+use entry::Payload;
+use event::Event;
 use ring::{Lsn, slot_after};
-use thread_log::{Changed, Log};
-
-// Where the current region has a cell's entry.
-#[derive(Clone, Copy)]
-pub enum Found {
-    Nowhere,
-    At(Lsn),
-}
+use thread_log::Log;
 
 // The oldest region that is not pruned: how many entries it has, its first and its last one, and whether it is finished.
 #[derive(Clone, Copy)]
@@ -27,83 +21,44 @@ pub struct Region {
     pub finished: bool,
 }
 
-// Appends the entry where a step's own tests allow it: their refusal, or else what the append answers (its LSN, or 6, then 5), beside the
-// log after it.
-pub fn enter(log: Log, asked: Answer, event: Event) -> Changed
-    ensures { result ≡ entered_of log asked event }
+// Appends the entry where a step's own tests allow it: answers their refusal, or else what the append answers (its LSN, or 6, then 5). A
+// refusal leaves the log as it was.
+pub fn enter(log: &mut Log, asked: Answer, event: Event) -> Answer
+    ensures { record { answer = result; log = log.new } ≡ entered_of log.old asked event }
 {
-    if answer::number(asked) != 0 {
-        return Changed { answer: asked, log };
-    }
-    log.append(event.payload(), event.closes())
+    asked?;
+    log.append(Payload::from(event), event.closes())
 }
 
-// Where the current region has the cell's entry.
-pub fn logged(log: Log, cell: usize) -> Found
-    ensures { result ≡ logged_of log cell }
+// The LSN of the current region's entry of the cell, if it has one.
+pub fn logged(log: &Log, cell: usize) -> Option<Lsn>
+    ensures { result ≡ logged_of log.now cell }
 {
-    let head = log.head;
-    let cached = log.cached;
-    let tail = log.tail;
-    let mut left = tail.live_count(head);
-    while 0 < left {
-        left -= 1;
-        let slot = slot_after(head, left as usize);
-        let entry = cached[slot];
-        let event = event_of(entry);
-        match event {
-            Event::Empty => return Found::Nowhere,
-            Event::Store {
-                cell: logged,
-                old: _,
-            } => {
+    for index in (0..log.tail.live_count(log.head)).rev() {
+        match Event::from(log.cached[slot_after(log.head, index as usize)]) {
+            Event::Store { cell: logged, .. } => {
                 if logged as usize == cell {
-                    return Found::At(Lsn(head.0 + left));
+                    return Some(Lsn(log.head.0 + index));
                 }
             }
-            Event::Acquire { lock: _, count: _ } => return Found::Nowhere,
-            Event::Release { lock: _, count: _ } => return Found::Nowhere,
+            Event::Empty | Event::Acquire { .. } | Event::Release { .. } => return None,
         }
     }
-    Found::Nowhere
-}
-
-// The current region has the cell's entry.
-fn is_found(found: Found) -> bool
-    ensures { result ≡ is_found found }
-{
-    match found {
-        Found::Nowhere => false,
-        Found::At(_) => true,
-    }
-}
-
-// The entry that was found comes after the log's last durable one.
-fn is_undurable(log: Log, found: Found) -> bool
-    ensures { result ≡ is_undurable_found log found }
-{
-    let tail = log.tail;
-    let durable = tail.durable;
-    match found {
-        Found::Nowhere => false,
-        Found::At(lsn) => durable.0 < lsn.0,
-    }
+    None
 }
 
 // STORE's tests: 7, 10, 11.
-pub fn store_answer(log: Log, cell: usize) -> Answer
-    ensures { result ≡ first_refusal (store_tests_on log cell) }
+pub fn store_answer(log: &Log, cell: usize) -> Answer
+    ensures { result ≡ first_refusal (store_tests_on log.now cell) }
 {
-    let tail = log.tail;
-    if tail.is_releasing() {
-        return Answer::Releasing;
+    if log.tail.is_releasing() {
+        return Err(Refusal::Releasing);
     }
-    let found = logged(log, cell);
-    if !is_found(found) {
-        return Answer::NotLogged;
+    let Some(lsn) = logged(log, cell) else {
+        return Err(Refusal::NotLogged);
+    };
+    if log.tail.durable.0 < lsn.0 {
+        return Err(Refusal::EntryNotDurable);
     }
-    if is_undurable(log, found) {
-        return Answer::EntryNotDurable;
-    }
-    Answer::Accepted(0)
+    Ok(0)
 }

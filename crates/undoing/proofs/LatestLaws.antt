@@ -1,14 +1,14 @@
 -- The latest ACQUIREs of so many entries of each log: a RELEASE waits for one of them if it waits for any, and one entry more or fewer
 -- changes one of them at most.
 use Prim.Native.Nat.{ℕ, zero, suc, ◌+◌, ◌-◌, ◌*◌, ◌≤◌, ◌<◌}
-use mathlib.Core.Path.{◌≡◌, refl, sym, ap, ap₂, ◌∙◌}
+use mathlib.Core.Path.{◌≡◌, sym, ap, ap₂, ◌∙◌}
 use mathlib.Core.Bool.{Bool, true, false, cond, ◌&&◌, ◌||◌}
 use mathlib.Core.Logic.{by_cases}
-use mathlib.Core.List.{List, [], ◌∷◌}
+use mathlib.Core.List.{List, []}
 use native.Mathlib.Decide.{dec_lt, ℕ_discrete}
 use native.Mathlib.Omega.{arith}
 use borrow.Author.Tests.{lt-ltb, le-ltb, eq-eqb, ne_eqb}
-use lib.ListN.{length, get_or, set, length-set}
+use lib.ListN.{length, set, length-set}
 use lib.Dec.{eqb, ltb}
 use lib.Seq.{get_or-set_same, get_or-set_other}
 use Rattle.sizes.specs.Sizes.{thread_count, lock_count}
@@ -22,8 +22,7 @@ use Rattle.image.specs.Reading.{log_in, entry_in, Good}
 use Rattle.image.specs.declared.Entry.{Entry}
 use Rattle.image.proofs.GoodEntries.{good-acquire}
 use Rattle.undoing.specs.Undo.{has_later_acquire}
-use Rattle.undoing.specs.Latest.{latest_acquire, lock_of, counts_of, row_with, count_of, with_count, row_of, earlier_of, later_of, Remembers}
-use Rattle.undoing.specs.declared.Latest.{Latest}
+use Rattle.undoing.specs.Latest.{latest_acquire, lock_of, count_of, row_of, earlier_of, later_of, Remembers}
 
 -- the larger of two counts is larger than a third where one of them is
 larger : (count value earlier : ℕ) → (ltb count value || ltb count earlier) ≡ ltb count (cond (ltb earlier value) value earlier)
@@ -63,17 +62,6 @@ latest-passes log left lock other =
     (λ acquire. rw (eq-eqb (entry_kind log left) 2 acquire, ne_eqb (entry_place log left) lock (other acquire)))
     (λ no-acquire. rw (ne_eqb (entry_kind log left) 2 no-acquire))
 
--- the larger of a count and an ACQUIRE's
-module _ (count : SyncCount) (entry : Entry) where
-  pub later-larger : entry.kind ≡ 2 → count.0 < entry.value → sync_count entry.value ≡ later_of count entry
-  later-larger acquire less = rw (eq-eqb entry.kind 2 acquire, lt-ltb count.0 entry.value less)
-
-  pub later-smaller : entry.kind ≡ 2 → entry.value ≤ count.0 → count ≡ later_of count entry
-  later-smaller acquire no_less = rw (eq-eqb entry.kind 2 acquire, le-ltb count.0 entry.value no_less)
-
-  pub later-other : (entry.kind ≡ 2 → ⊥) → count ≡ later_of count entry
-  later-other other = rw (ne_eqb entry.kind 2 other)
-
 -- an entry of a lock leaves the latest ACQUIREs of the other locks as they are
 latest-others : (log : StoredLog) (index lock : ℕ) → Good (entry_in log index) → lock < lock_count →
     (lock ≡ lock_of (entry_place log index) → ⊥) →
@@ -95,48 +83,7 @@ latest_here log index count good is =
     rw (eq-eqb (entry_kind log index) 2 acquire, eq-eqb (entry_place log index) (lock_of (entry_place log index)) own, is))
     (λ no-acquire. rw (ne_eqb (entry_kind log index) 2 no-acquire, is))
 
--- four counts make a row that has them
-row_counts : (counts : List SyncCount) → length counts ≡ thread_count → counts_of (row_with counts) ≡ counts
-row_counts (a ∷ b ∷ c ∷ d ∷ []) four = refl
-row_counts [] none = absurd (omega arith)
-row_counts (a ∷ []) one = absurd (omega arith)
-row_counts (a ∷ b ∷ []) two = absurd (omega arith)
-row_counts (a ∷ b ∷ c ∷ []) three = absurd (omega arith)
-row_counts (a ∷ b ∷ c ∷ d ∷ e ∷ counts) more = absurd (omega arith)
-
-module _ (row : Latest) (thread : ℕ) where
-  counts_with : (count : SyncCount) → counts_of (with_count row thread count) ≡ set (counts_of row) thread count
-  unfolding with_count
-  counts_with count = row_counts (set (counts_of row) thread count) (length-set (counts_of row) thread count)
-
-  -- a row with another count for one thread has it for that thread, and for each other thread what it had
-  count-here : (count : SyncCount) → thread < thread_count → count_of (with_count row thread count) thread ≡ count
-  unfolding count_of
-  count-here count inside =
-      ap (λ (counts : List SyncCount). get_or counts thread (sync_count 0)) (counts_with count)
-      ∙ get_or-set_same (counts_of row) thread count (sync_count 0) inside
-
-  count-other : (other : ℕ) (count : SyncCount) → (other ≡ thread → ⊥) → count_of (with_count row thread count) other ≡ count_of row other
-  unfolding count_of
-  count-other other count another =
-      ap (λ (counts : List SyncCount). get_or counts other (sync_count 0)) (counts_with count)
-      ∙ get_or-set_other (counts_of row) thread other count (sync_count 0) another
-
--- a row with another count, field by field
-pub with_fields : (row : Latest) (thread : ℕ) (count : SyncCount) → thread < thread_count → with_count row thread count ≡ record {
-  t0 = cond (eqb thread 0) count row.t0;
-  t1 = cond (eqb thread 1) count row.t1;
-  t2 = cond (eqb thread 2) count row.t2;
-  t3 = cond (eqb thread 3) count row.t3;
-}
-unfolding with_count
-with_fields row zero count inside = refl
-with_fields row (suc zero) count inside = refl
-with_fields row (suc (suc zero)) count inside = refl
-with_fields row (suc (suc (suc zero))) count inside = refl
-with_fields row (suc (suc (suc (suc thread)))) count inside = absurd (omega arith)
-
-module _ {image : List ℕ} {seen : ℕ → ℕ} {latest : List Latest} {earlier : List SyncCount} (old : Remembers image seen latest earlier) where
+module _ {image : List ℕ} {seen : ℕ → ℕ} {latest : List (List SyncCount)} {earlier : List SyncCount} (old : Remembers image seen latest earlier) where
   -- a RELEASE waits for an ACQUIRE that is remembered, or for none
   pub waits-for-latest : (lock count : ℕ) → lock < lock_count →
       some_below thread_count (λ thread. ltb count (count_of (row_of latest lock) thread).0) ≡
@@ -152,17 +99,17 @@ module _ {image : List ℕ} {seen : ℕ → ℕ} {latest : List Latest} {earlier
       (here : count.0 ≡ latest_acquire (log_in image thread) (next thread) lock)
       (elsewhere : (other : ℕ) → other < lock_count → (other ≡ lock → ⊥) →
       latest_acquire (log_in image thread) (seen thread) other ≡ latest_acquire (log_in image thread) (next thread) other) where
-    abbrev row : Latest
-    row = with_count (row_of latest lock) thread count
+    abbrev row : List SyncCount
+    row = set (row_of latest lock) thread count
 
-    abbrev changed : List Latest
+    abbrev changed : List (List SyncCount)
     changed = set latest lock row
 
     row_here : row_of changed lock ≡ row
-    row_here = get_or-set_same latest lock row (row_with []) (omega (arith, old.locks))
+    row_here = get_or-set_same latest lock row [] (omega (arith, old.locks))
 
     row_other : (other : ℕ) → (other ≡ lock → ⊥) → row_of changed other ≡ row_of latest other
-    row_other other differs = get_or-set_other latest lock other row (row_with []) differs
+    row_other other differs = get_or-set_other latest lock other row [] differs
 
     same-thread : (t : ℕ) → t < thread_count → (t ≡ thread → ⊥) → (l : ℕ) →
         latest_acquire (log_in image t) (seen t) l ≡ latest_acquire (log_in image t) (next t) l
@@ -176,10 +123,10 @@ module _ {image : List ℕ} {seen : ℕ → ℕ} {latest : List Latest} {earlier
         by_cases (ℕ_discrete t thread)
         (λ same.
         rw (same-lock, same, row_here)
-        (ap (λ (c : SyncCount). c.0) (count-here (row_of latest lock) thread count inside) ∙ here))
+        (ap (λ (c : SyncCount). c.0) (get_or-set_same (row_of latest lock) thread count (sync_count 0) (omega (arith, old.rows lock locked))) ∙ here))
         (λ another.
         rw (same-lock, row_here)
-        (ap (λ (c : SyncCount). c.0) (count-other (row_of latest lock) thread t count another)
+        (ap (λ (c : SyncCount). c.0) (get_or-set_other (row_of latest lock) thread t count (sync_count 0) another)
         ∙ old.latest_is t lock t-inside locked
         ∙ same-thread t t-inside another lock)))
         (λ other-lock.
@@ -188,6 +135,12 @@ module _ {image : List ℕ} {seen : ℕ → ℕ} {latest : List Latest} {earlier
         ∙ by_cases (ℕ_discrete t thread)
         (λ same. rw same (elsewhere l l-locked other-lock))
         (λ another. same-thread t t-inside another l)))
+
+    rows-stay : (l : ℕ) → l < lock_count → length (row_of changed l) ≡ thread_count
+    rows-stay l l-locked =
+        by_cases (ℕ_discrete l lock)
+        (λ same. rw (same, row_here) (length-set (row_of latest lock) thread count ∙ old.rows lock locked))
+        (λ other. rw (row_other l other) (old.rows l l-locked))
 
     few-stay : (t : ℕ) → t < thread_count → next t ≤ slot_count
     few-stay t t-inside =
@@ -258,9 +211,10 @@ module _ {image : List ℕ} {seen : ℕ → ℕ} {latest : List Latest} {earlier
             omega (arith, ap next same, ap seen same, one_more, below, not_last))
             (λ another. omega (arith, others t t-inside another, below))
 
-    pub remember-more : Remembers image next (set latest lock (with_count (row_of latest lock) thread (later_of count entry))) written
+    pub remember-more : Remembers image next (set latest lock (set (row_of latest lock) thread (later_of count entry))) written
     remember-more = record {
       locks = length-set latest lock _ ∙ old.locks;
+      rows = rows-stay thread lock inside locked (later_of count entry) next (omega (arith, one_more, more)) others count-is elsewhere-same;
       places = length-set earlier (thread * slot_count + seen thread) count ∙ old.places;
       few = few-stay thread lock inside locked (later_of count entry) next (omega (arith, one_more, more)) others count-is elsewhere-same;
       latest_is =
@@ -301,9 +255,10 @@ module _ {image : List ℕ} {seen : ℕ → ℕ} {latest : List Latest} {earlier
         (λ same. omega (arith, ap next same, ap seen same, one_fewer, below))
         (λ another. omega (arith, others t t-inside another, below))
 
-    pub remember-fewer : Remembers image next (set latest last_lock (with_count (row_of latest last_lock) thread before)) earlier
+    pub remember-fewer : Remembers image next (set latest last_lock (set (row_of latest last_lock) thread before)) earlier
     remember-fewer = record {
       locks = length-set latest last_lock _ ∙ old.locks;
+      rows = rows-stay thread last_lock inside (omega arith) before next few_enough others before-is stays-elsewhere;
       places = old.places;
       few = few-stay thread last_lock inside (omega arith) before next few_enough others before-is stays-elsewhere;
       latest_is = latest-stays thread last_lock inside (omega arith) before next few_enough others before-is stays-elsewhere;
@@ -315,6 +270,7 @@ module _ {image : List ℕ} {seen : ℕ → ℕ} {latest : List Latest} {earlier
       Remembers image next latest earlier
   remember-same next same = record {
     locks = old.locks;
+    rows = old.rows;
     places = old.places;
     few = λ thread inside. rw (same thread inside) (old.few thread inside);
     latest_is = λ thread lock inside locked. rw (same thread inside) (old.latest_is thread lock inside locked);

@@ -1,5 +1,6 @@
--- Laws about the undo order and what is remembered on the way, and what the proofs of several functions share.
-pub mod LatestLaws
-pub mod Pass
+-- Laws of the undo order, of what is remembered of ACQUIREs, and of the code's pass and turns.
 pub mod UndoLaws
+pub mod LatestLaws
+pub mod Asked
+pub mod Pass
 pub mod Turns

@@ -3,8 +3,10 @@ use Prim.Native.Nat.{ℕ, zero, suc, ◌+◌, ◌-◌, ◌≤◌, ◌<◌}
 use mathlib.Core.Path.{◌≡◌, refl, ap}
 use mathlib.Core.Bool.{Bool, true, false, cond, not}
 use mathlib.Core.List.{List}
-use mathlib.Core.Option.{Option, none, some, some-injective, none-ne-some}
-use native.Mathlib.Numerals.{add-one}
+use Rattle.std.specs.Prelude.{Option, None, Some}
+use Rattle.std.proofs.lemmas.Option.{none-some, same_Some}
+use mathlib.Core.Logic.{by_cases}
+use native.Mathlib.Decide.{ℕ_discrete}
 use native.Mathlib.Omega.{arith}
 use borrow.Author.Tests.{eq-eqb, ne_eqb}
 use Rattle.sizes.specs.Sizes.{thread_count}
@@ -43,38 +45,48 @@ module _ (logs : List StoredLog) (left : List ℕ) where
     pub may-take-has : may_take logs left thread ≡ true → left_of left thread ≡ 0 → ⊥
     may-take-has may nothing = let never : ◌≡◌ {A = ℕ} 0 1 = cc (may-take-nothing nothing) in omega arith
 
-  -- a search for the lowest thread, of n threads from one on
-  module _ (thread n : ℕ) (more : thread < n) where
-    one_more : n - thread ≡ suc (n - (thread + 1))
-    one_more = omega arith
-
-    pub lowest-here : may_take logs left thread ≡ true → lowest_from logs left thread (n - thread) ≡ some thread
-    unfolding lowest_from
-    lowest-here may = rw (one_more, may)
-
-    pub lowest-later : may_take logs left thread ≡ false →
-        lowest_from logs left thread (n - thread) ≡ lowest_from logs left (thread + 1) (n - (thread + 1))
-    unfolding lowest_from
-    lowest-later may_not = rw (one_more, may_not, add-one thread)
-
-  pub lowest-nowhere : (thread n : ℕ) → n ≤ thread → lowest_from logs left thread (n - thread) ≡ none
+  -- a search for the lowest thread, of so many from one on: none may, or the first that may is found
+  none_from : (thread count : ℕ) → ((other : ℕ) → thread ≤ other → other < thread + count → may_take logs left other ≡ false) →
+      lowest_from logs left thread count ≡ None
   unfolding lowest_from
-  lowest-nowhere thread n past = let no_more : n - thread ≡ 0 = omega arith in rw no_more
+  none_from thread zero none-may = refl
+  none_from thread (suc count) none-may =
+      rw (none-may thread (omega arith) (omega arith))
+      (none_from (suc thread) count (λ other low high. none-may other (omega arith) (omega arith)))
+
+  found-from : (thread count found : ℕ) → thread ≤ found → found < thread + count → may_take logs left found ≡ true →
+      ((other : ℕ) → thread ≤ other → other < found → may_take logs left other ≡ false) → lowest_from logs left thread count ≡ Some found
+  unfolding lowest_from
+  found-from thread zero found low high may none-lower = absurd (omega arith)
+  found-from thread (suc count) found low high may none-lower =
+      by_cases (ℕ_discrete thread found)
+      (λ same. rw (same, may))
+      (λ other.
+      rw (none-lower thread (omega arith) (omega arith))
+      (found-from (suc thread) count found (omega arith) (omega arith) may (λ lower above below. none-lower lower (omega arith) below)))
+
+  pub lowest-none : (count : ℕ) → ((thread : ℕ) → thread < count → may_take logs left thread ≡ false) → lowest_from logs left 0 count ≡ None
+  lowest-none count none-may = none_from 0 count (λ other low high. none-may other (omega arith))
+
+  pub lowest-found : (count found : ℕ) → found < count → may_take logs left found ≡ true →
+      ((lower : ℕ) → lower < found → may_take logs left lower ≡ false) → lowest_from logs left 0 count ≡ Some found
+  lowest-found count found inside may none-lower =
+      found-from 0 count found (omega arith) (omega arith) may (λ other low high. none-lower other high)
 
   -- the lowest thread found is one of those searched, and its last entry may be taken
-  pub lowest-may : (thread count found : ℕ) → lowest_from logs left thread count ≡ some found →
+  pub lowest-may : (thread count found : ℕ) → lowest_from logs left thread count ≡ Some found →
       (found < thread + count) × (may_take logs left found ≡ true)
   unfolding lowest_from
-  lowest-may thread zero found is_found = absurd (none-ne-some found is_found)
+  lowest-may thread zero found is_found = absurd (none-some found is_found)
   lowest-may thread (suc count) found is_found =
       by_first (may_take logs left thread) refl is_found (lowest-may (suc thread) count found)
     where
       by_first : (first : Bool) → may_take logs left thread ≡ first →
-          cond first (some thread) (lowest_from logs left (suc thread) count) ≡ some found →
-          (lowest_from logs left (suc thread) count ≡ some found → (found < suc thread + count) × (may_take logs left found ≡ true)) →
+          cond first (Some thread) (lowest_from logs left (suc thread) count) ≡ Some found →
+          (lowest_from logs left (suc thread) count ≡ Some found → (found < suc thread + count) × (may_take logs left found ≡ true)) →
           (found < thread + suc count) × (may_take logs left found ≡ true)
       by_first true may is_first later =
-          let same = some-injective thread found is_first in
+          let same = same_Some thread found is_first in
           (omega arith, rw (← same) may)
       by_first false may_not is_later later =
           let rest = later is_later in
@@ -82,13 +94,13 @@ module _ (logs : List StoredLog) (left : List ℕ) where
 
 module _ (logs : List StoredLog) (undo : Undo) where
   -- where nothing may be taken, nothing changes any more
-  pub take-nothing : lowest_from logs undo.left 0 thread_count ≡ none → (count : ℕ) → take_many count logs undo ≡ undo
+  pub take-nothing : lowest_from logs undo.left 0 thread_count ≡ None → (count : ℕ) → take_many count logs undo ≡ undo
   unfolding take_many take_next
   take-nothing nobody zero = refl
   take-nothing nobody (suc count) = rw nobody (take-nothing nobody count)
 
   -- one turn of n takes the last entry of the lowest thread
-  pub take-one : (thread turn n : ℕ) → turn < n → lowest_from logs undo.left 0 thread_count ≡ some thread →
+  pub take-one : (thread turn n : ℕ) → turn < n → lowest_from logs undo.left 0 thread_count ≡ Some thread →
       take_many (n - turn) logs undo ≡ take_many (n - (turn + 1)) logs (take_last logs undo thread)
   unfolding take_many take_next
   take-one thread turn n more lowest =

@@ -1,7 +1,6 @@
 -- The undo order: "repeatedly takes the last remaining entry of the lowest thread whose last one may be taken".
 -- It is stated over the four logs of an image and how many present entries each has left.
-use Rattle.std.specs.Prelude.{ℕ, zero, suc, ◌-◌, Bool, true, false, cond, not, ◌&&◌, List, get_or, set, take, eqb, ltb}
-use Rattle.std.proofs.Math.Option.{Option, none, some}
+use Rattle.std.specs.Prelude.{ℕ, zero, suc, ◌-◌, Bool, true, false, cond, not, ◌&&◌, List, get_or, set, take, eqb, ltb, Option, None, Some}
 use Rattle.sizes.specs.Sizes.{thread_count}
 use Rattle.answer.specs.Lists.{some_below}
 use Rattle.reader.specs.Stretch.{heads_at}
@@ -37,10 +36,10 @@ may_take logs left thread =
 
 -- the lowest of so many threads, from this one on, whose last entry may be taken
 unfoldable pub lowest_from : List StoredLog → List ℕ → ℕ → ℕ → Option ℕ
-lowest_from logs left thread zero = none
+lowest_from logs left thread zero = None
 lowest_from logs left thread (suc count) =
     let later = lowest_from logs left (suc thread) count in
-    cond (may_take logs left thread) (some thread) later
+    cond (may_take logs left thread) (Some thread) later
 
 -- "A STORE taken writes its value back."
 unfoldable pub take_last : List StoredLog → Undo → ℕ → Undo
@@ -54,8 +53,8 @@ take_last logs undo thread =
     }
 
 abbrev pub take_from : List StoredLog → Undo → Option ℕ → Undo
-take_from logs undo none = undo
-take_from logs undo (some thread) = take_last logs undo thread
+take_from logs undo None = undo
+take_from logs undo (Some thread) = take_last logs undo thread
 
 -- one entry is taken, where one may be
 unfoldable pub take_next : List StoredLog → Undo → Undo

@@ -1,2 +1,3 @@
--- A fence's walk over the lines.
+-- A part of a list that is written over, and a fence's walk over the lines.
+pub mod Parts
 pub mod Fences

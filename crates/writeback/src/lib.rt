@@ -11,17 +11,15 @@ use cache::Cache;
 use sizes::{CELLS, LINE_CELLS, LINES, THREADS};
 use tail::Tail;
 
-// Copies the eight cells of a line.
+// Copies the eight cells of a line. Here and below it is asked below 16, as a place: a type that says so would be unwrapped for each
+// array.
 fn copy_line(from: &[u64; CELLS], to: &mut [u64; CELLS], line: usize)
     requires { (line < line_count) × (length from.now ≡ cell_count) × (length to.old ≡ cell_count) }
     ensures { to.new ≡ mix_from (λ cell. eqb (line_of cell) line) 0 from.now to.old }
 {
-    let end = line * LINE_CELLS + LINE_CELLS;
-    let mut cell = line * LINE_CELLS;
-    while cell < end {
-        to[cell] = from[cell];
-        cell += 1;
-    }
+    let first = line * LINE_CELLS;
+    let end = first + LINE_CELLS;
+    to[first..end].copy_from_slice(&from[first..end]);
 }
 
 // Sets the eight cells of a line.
@@ -29,12 +27,8 @@ fn set_line(flags: &mut [bool; CELLS], line: usize)
     requires { (line < line_count) × (length flags.old ≡ cell_count) }
     ensures { flags.new ≡ set_from (λ cell. eqb (line_of cell) line) true 0 flags.old }
 {
-    let end = line * LINE_CELLS + LINE_CELLS;
-    let mut cell = line * LINE_CELLS;
-    while cell < end {
-        flags[cell] = true;
-        cell += 1;
-    }
+    let first = line * LINE_CELLS;
+    flags[first..first + LINE_CELLS].fill(true);
 }
 
 // Completes the thread's pending flushes: the cells of each such line are persisted and durable.
@@ -42,16 +36,14 @@ pub fn fence(mut cache: Cache, thread: usize) -> Cache
     ensures { result ≡ fence_of cache thread }
 {
     if thread < THREADS {
-        let cached = cache.cached;
-        let mut line = 0;
-        while line < LINES {
+        // by the line's number, which both helpers take
+        for line in 0..LINES {
             let place = thread * LINES + line;
             if cache.pending[place] {
-                copy_line(&cached, &mut cache.persisted, line);
+                copy_line(&cache.cached, &mut cache.persisted, line);
                 set_line(&mut cache.durable, line);
                 cache.pending[place] = false;
             }
-            line += 1;
         }
     }
     cache
@@ -68,12 +60,13 @@ pub fn carried(cache: Cache, tail: Tail, thread: usize) -> u64
 }
 
 // The cell's cached content alone is persisted. The cell does not become durable by it; one past the last changes nothing.
+#[tactic(auto, unfolding(cache::specs::Cache::evict_cell_of))]
 pub fn evict_cell(mut cache: Cache, cell: usize) -> Cache
     ensures { result ≡ evict_cell_of cache cell }
 {
+    // by its index: of a `get_mut` the check learns nothing of the array after the loan
     if cell < CELLS {
-        let content = cache.cached[cell];
-        cache.persisted[cell] = content;
+        cache.persisted[cell] = cache.cached[cell];
     }
     cache
 }

@@ -11,28 +11,23 @@ use sizes::ENTRY_WORDS;
 use thread_log::Log;
 
 // The first 256 words of the part become the log's persisted ones; a part that is too short stays as it was.
-pub fn write_stretch(log: Log, part: &mut [u64])
-    ensures { part.new ≡ written_of log part.old }
+pub fn write_stretch(log: &Log, part: &mut [u64])
+    ensures { part.new ≡ written_of log.now part.old }
 {
     if part.len() < STRETCH_WORDS {
         return;
     }
-    let persisted = log.persisted;
-    let mut i = 0;
-    while i < STRETCH_WORDS {
-        let slot = persisted[i / ENTRY_WORDS];
-        part[i] = slot.word(i % ENTRY_WORDS);
-        i += 1;
+    for (index, word) in part[..STRETCH_WORDS].iter_mut().enumerate() {
+        *word = log.persisted[index / ENTRY_WORDS].word(index % ENTRY_WORDS);
     }
 }
 
-// Writes a thread's head, and its log's stretch from the thread's first word on, into an image.
-pub fn write_log(log: Log, thread: usize, image: &mut [u64])
+// Writes a thread's head, and its log's stretch from the thread's first word on, into an image. Thread and length are asked as a place in
+// the image and its words: types that say so would be unwrapped here.
+pub fn write_log(log: &Log, thread: usize, image: &mut [u64])
     requires { (thread < thread_count) × (length image.old ≡ image_words) }
-    ensures { image.new ≡ log_into log thread image.old }
+    ensures { image.new ≡ log_into log.now thread image.old }
 {
-    let head = log.head;
-    image[HEADS_AT + thread] = head.0 as u64;
-    let at = LOGS_AT + thread * STRETCH_WORDS;
-    write_stretch(log, &mut image[at..]);
+    image[HEADS_AT + thread] = log.head.0 as u64;
+    write_stretch(log, &mut image[LOGS_AT + thread * STRETCH_WORDS..]);
 }

@@ -7,22 +7,22 @@ use Rattle.accessing.proofs.log_cell.Goals as goal
 use Rattle.accessing.proofs.log_cell.Goals.{Else-is_releasing}
 
 -- the thread is not closing
-open-still : (c : Else-is_releasing) → is_closing c.args.log ≡ false
+open-still : (c : Else-is_releasing) → is_closing c.args.log.now ≡ false
 open-still c = sym c.is_releasing.ensures ∙ c.if-is_releasing.false
 
 pub returns-then-is_releasing : goal.returns-then-is_releasing
 returns-then-is_releasing c = let a = c.args in
-    log-closing a.log a.accesses a.clock a.cell a.thread a.old
-    (sym c.is_releasing.ensures ∙ c.if-is_releasing.true)
+    log-closing a.log.now a.accesses.now a.clock a.cell a.thread a.old (sym c.is_releasing.ensures ∙ c.if-is_releasing.true)
 
-pub returns-in-Nowhere : goal.returns-in-Nowhere
-returns-in-Nowhere c = let a = c.args in
+pub returns-in-None : goal.returns-in-None
+returns-in-None c = let a = c.args in
     c.log_first.ensures
-    ∙ log-anew a.log a.accesses a.clock a.cell a.thread a.old (open-still (goal.at.returns-in-Nowhere c).Else-is_releasing)
-    (sym c.logged-found.ensures ∙ c.in-Nowhere.is)
+    ∙ log-anew a.log.now a.accesses.now a.clock a.cell a.thread a.old (open-still (goal.at.returns-in-None c).Else-is_releasing)
+    (sym c.in-None.ensures)
 
-pub returns-in-At : goal.returns-in-At
-returns-in-At c = let a = c.args in
-    log-again a.log a.accesses a.clock a.cell a.thread a.old (open-still (goal.at.returns-in-At c).Else-is_releasing)
+pub returns-in-Some : goal.returns-in-Some
+returns-in-Some c = let a = c.args in
+    rw c.from.ensures
+    (log-again a.log.now a.accesses.now a.clock a.cell a.thread a.old (open-still (goal.at.returns-in-Some c).Else-is_releasing)
     _
-    (sym c.logged-found.ensures ∙ c.in-At.is)
+    (sym c.in-Some.ensures))

@@ -4,17 +4,17 @@ use Rattle.append.specs.Append.{grow_of, grown_tail}
 use Rattle.append.proofs.Room.{used-up, full, room}
 use Rattle.append.proofs.grow.Goals as goal
 
-pub returns-then-next-gt-LAST_LSN : goal.returns-then-next-gt-LAST_LSN
+pub returns-then-tail-gt-LAST_LSN : goal.returns-then-tail-gt-LAST_LSN
 unfolding grow_of
-returns-then-next-gt-LAST_LSN c = sym (used-up _ _ _ _ c.if-next-gt-LAST_LSN.true)
+returns-then-tail-gt-LAST_LSN c = sym (used-up _ _ _ _ c.if-tail-gt-LAST_LSN.true)
 
-pub returns-then-since : goal.returns-then-since
+pub returns-then-live_count : goal.returns-then-live_count
 unfolding grow_of
-returns-then-since c = sym (full _ _ _ _ c.if-next-gt-LAST_LSN.false (rw (← c.since.ensures) c.if-since.true))
+returns-then-live_count c = sym (full _ _ _ _ c.if-tail-gt-LAST_LSN.false (rw (← c.live_count.ensures) c.if-live_count.true))
 
 pub returns : goal.returns
 unfolding grow_of grown_tail
-returns c = let a = c.args in
-    rw c.closed.ensures
-    (sym (room _ _ a.tail a.head.0 c.if-next-gt-LAST_LSN.false
-    (rw (← c.since.ensures) c.if-since.false)))
+returns c =
+    let a = c.args in
+    let some = c.if-live_count.false in
+    rw c.closed.ensures (sym (room _ _ a.tail a.head.0 c.if-tail-gt-LAST_LSN.false (rw (← c.live_count.ensures) some)))

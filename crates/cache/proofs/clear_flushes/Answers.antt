@@ -6,15 +6,12 @@ use Rattle.cache.proofs.Lines.{cleared-starts, cleared-turn, cleared-done}
 use Rattle.cache.proofs.clear_flushes.Goals as goal
 
 pub loop-thread-init : goal.loop-thread-init
-loop-thread-init c = (omega arith, cleared-starts c.args.line c.args.pending.now c.requires.0 c.requires.1)
+loop-thread-init c = cleared-starts c.args.line c.args.pending.now c.requires.0 c.requires.1
 
 pub loop-thread-preserved : goal.loop-thread-preserved
-loop-thread-preserved c = let l = c.loop-thread in (
-  omega arith,
-  rw l.invariant.1
-      (cleared-turn c.args.line c.args.pending.now c.requires.0 c.requires.1 l.thread (omega arith)),
-)
+loop-thread-preserved c = let l = c.loop-thread in
+    rw l.invariant (cleared-turn c.args.line c.args.pending.now c.requires.0 c.requires.1 l.thread (omega arith))
 
 pub returns : goal.returns
 returns c = let l = c.loop-thread in
-    l.invariant.1 ∙ cleared-done c.args.line c.args.pending.now c.requires.0 c.requires.1 l.thread (omega arith)
+    l.invariant ∙ cleared-done c.args.line c.args.pending.now c.requires.0 c.requires.1 l.thread (omega arith)

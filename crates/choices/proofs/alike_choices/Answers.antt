@@ -16,4 +16,4 @@ returns-then-image-lt-CELLS c = rw (le-ltb _ cell_count c.if-evicted-lt-CELLS.fa
 pub returns : goal.returns
 returns c = let args = c.args in
     whole_images args.evicted.now args.image.now args.seen.now args.kept.now c.if-evicted-lt-CELLS.false
-    c.if-image-lt-CELLS.false c.differing_lines.ensures.lines_value c.count_alike.ensures
+    c.if-image-lt-CELLS.false c.differing_lines.ensures c.count_alike.ensures

@@ -1,5 +1,4 @@
 -- `choices::count_alike` meets its contract. The loop's invariant: those counted and those left to count are all choices that are alike.
-use Prim.Native.Nat.{◌-◌}
 use lib.ListN.{take}
 use Rattle.choices.specs.Choices.{choices_of}
 use Rattle.choices.specs.Counting.{marks_of, is_alike}
@@ -8,6 +7,3 @@ use Rattle.choices.proofs.count_alike.Given as goal
 
 abbrev pub invariant-loop-choice : goal.invariant-loop-choice
 invariant-loop-choice l = Counted (λ lines. is_alike l.seen l.kept (marks_of lines)) (choices_of (take l.tried.count l.tried.lines)) l.choice l.alike
-
-abbrev pub decreases-loop-choice : goal.decreases-loop-choice
-decreases-loop-choice l = l.total - l.choice

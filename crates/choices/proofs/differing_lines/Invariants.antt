@@ -1,12 +1,7 @@
 -- `choices::differing_lines` meets its contract. The loop's invariant: with those from `line` on, the lines are the first eight of all.
-use Prim.Native.Nat.{◌-◌}
-use Rattle.cache.specs.Cache.{line_count}
 use Rattle.choices.specs.Choices.{differs_in}
 use Rattle.choices.proofs.ChoiceLaws.{Gathered}
 use Rattle.choices.proofs.differing_lines.Given as goal
 
 abbrev pub invariant-loop-line : goal.invariant-loop-line
 invariant-loop-line l = Gathered (differs_in l.seen l.kept) l.lines l.count l.line
-
-abbrev pub decreases-loop-line : goal.decreases-loop-line
-decreases-loop-line l = line_count - l.line

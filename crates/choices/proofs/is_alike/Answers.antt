@@ -1,35 +1,58 @@
 -- `choices::is_alike` meets its contract. The loop's invariant: no cell before `cell` would be another than the kept one.
-use mathlib.Core.Path.{◌≡◌, ap, sym, ◌∙◌}
-use mathlib.Core.Bool.{not}
+use Prim.Native.Nat.{ℕ}
+use mathlib.Core.Path.{◌≡◌, refl, ap, ◌∙◌}
+use mathlib.Core.Bool.{Bool, true, false, cond, not}
+use mathlib.Core.List.{List}
+use lib.ListN.{get_or}
+use lib.Dec.{eqb}
 use borrow.Author.Rules.{rules}
 use borrow.Author.Tests.{eq-eqb, ne_eqb}
+use Rattle.answer.proofs.ListLaws.{cond_same}
 use Rattle.answer.proofs.Searches.{search_starts, search-on, search-finds, search-ends}
+use Rattle.cache.specs.Cache.{line_of}
 use Rattle.choices.specs.Counting.{mixed_at, is_alike}
 use Rattle.choices.proofs.is_alike.Goals as goal
-use Rattle.choices.proofs.is_alike.Goals.{Joined-marks-cell, then-marks-cell, else-marks-cell}
+use Rattle.choices.proofs.is_alike.Goals.{else-differs-via-then-differs+else-marks-cell, else-differs-via-else-differs}
 
--- the content is the mixed cells' one
-mixed : (c : Joined-marks-cell)
-    → let args = c.args in
-    mixed_at args.marks args.seen.now args.kept.now c.loop-cell.cell ≡ c.if-marks-cell.content
-unfolding mixed_at
-mixed c =
-    elim c.if-marks-cell.branch [
-      | then-marks-cell w ↦ rw w.if-marks-cell.true (sym w.content-is)
-      | else-marks-cell w ↦ rw w.if-marks-cell.false (sym w.content-is)
-    ]
+module _ (marks : List Bool) (seen kept : List ℕ) (cell : ℕ) where
+  -- with the seen contents in the marked lines the cell holds another one than the kept one
+  abbrev changes : Bool
+  changes = not (eqb (mixed_at marks seen kept cell) (get_or kept cell 0))
+
+  marked : get_or marks (line_of cell) false ≡ true → (get_or seen cell 0 ≡ get_or kept cell 0 → ⊥) → changes ≡ true
+  unfolding mixed_at
+  marked is differs = rw is (ap not (ne_eqb (get_or seen cell 0) (get_or kept cell 0) differs))
+
+  unmarked : get_or marks (line_of cell) false ≡ false → changes ≡ false
+  unfolding mixed_at
+  unmarked is = rw is (ap not (eq-eqb (get_or kept cell 0) (get_or kept cell 0) refl))
+
+  unchanged : get_or seen cell 0 ≡ get_or kept cell 0 → changes ≡ false
+  unfolding mixed_at
+  unchanged same =
+      ap not
+      (eq-eqb _ _
+      (ap (λ (content : ℕ). cond (get_or marks (line_of cell) false) content (get_or kept cell 0)) same ∙
+      cond_same (get_or marks (line_of cell) false) (get_or kept cell 0)))
 
 pub loop-cell-init : goal.loop-cell-init
 loop-cell-init c = search_starts
 
-pub returns-then-content-kept : goal.returns-then-content-kept
+pub returns-then-marks-cell : goal.returns-then-marks-cell
 unfolding is_alike
-returns-then-content-kept c = let l = c.loop-cell in
-    ap not (search-finds l.invariant (search rules) (ap not (ne_eqb _ _ (λ same. c.if-content-kept.true (sym (mixed (goal.at.returns-then-content-kept c).Joined-marks-cell) ∙ same)))))
+returns-then-marks-cell c = let l = c.loop-cell in
+    let a = c.args in
+    ap not (search-finds l.invariant (search rules) (marked a.marks a.seen.now a.kept.now l.cell c.if-marks-cell.true c.if-differs.true))
 
 pub loop-cell-preserved : goal.loop-cell-preserved
 loop-cell-preserved c = let l = c.loop-cell in
-    search-on l.invariant (search rules) (ap not (eq-eqb _ _ (mixed (goal.at.loop-cell-preserved c).Joined-marks-cell ∙ c.if-content-kept.false)))
+    let a = c.args in
+    elim c.else-differs.branch [
+      | else-differs-via-then-differs+else-marks-cell w ↦
+          search-on l.invariant (search rules) (unmarked a.marks a.seen.now a.kept.now l.cell w.if-marks-cell.false)
+      | else-differs-via-else-differs w ↦
+          search-on l.invariant (search rules) (unchanged a.marks a.seen.now a.kept.now l.cell w.if-differs.false)
+    ]
 
 pub returns : goal.returns
 unfolding is_alike

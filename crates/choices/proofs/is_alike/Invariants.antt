@@ -1,5 +1,4 @@
 -- `choices::is_alike` meets its contract. The loop's invariant: no cell before `cell` would be another than the kept one.
-use Prim.Native.Nat.{◌-◌}
 use mathlib.Core.Bool.{not}
 use lib.ListN.{get_or}
 use lib.Dec.{eqb}
@@ -10,6 +9,3 @@ use Rattle.choices.proofs.is_alike.Given as goal
 
 abbrev pub invariant-loop-cell : goal.invariant-loop-cell
 invariant-loop-cell l = Searched cell_count (λ i. not (eqb (mixed_at l.marks l.seen l.kept i) (get_or l.kept i 0))) l.cell
-
-abbrev pub decreases-loop-cell : goal.decreases-loop-cell
-decreases-loop-cell l = cell_count - l.cell

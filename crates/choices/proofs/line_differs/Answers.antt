@@ -1,22 +1,22 @@
--- `choices::line_differs` meets its contract. The loop's invariant: no cell of the line before `index` differs.
-use mathlib.Core.Path.{ap}
-use mathlib.Core.Bool.{not}
+-- `choices::line_differs` meets its contract: two parts of equal length are the same where no cell of the line differs.
+use Prim.Native.Nat.{ℕ, ◌+◌, ◌*◌, ◌-◌}
+use native.Mathlib.Omega.{arith}
+use mathlib.Core.Path.{◌≡◌, refl, ◌∙◌}
+use mathlib.Core.Bool.{Bool, not}
+use lib.ListN.{take, drop}
+use lib.Dec.{eqb}
 use borrow.Author.Rules.{rules}
-use borrow.Author.Tests.{eq-eqb, ne_eqb}
-use Rattle.answer.proofs.Searches.{search_starts, search-on, search-finds, search-ends}
-use Rattle.choices.specs.Choices.{differs_in}
+use Rattle.std.specs.Cmp.Lexicographic.{pointwise}
+use Rattle.std.proofs.lemmas.Bool.Decides.{Decides-eqb}
+use Rattle.std.proofs.lemmas.Slice.Eq.{slice_eq-Decides}
+use Rattle.choices.proofs.ChoiceLaws.{differs_by}
 use Rattle.choices.proofs.line_differs.Goals as goal
 
-pub loop-index-init : goal.loop-index-init
-loop-index-init c = search_starts
-
-pub returns-then-seen-cell : goal.returns-then-seen-cell
-unfolding differs_in
-returns-then-seen-cell c = search-finds c.loop-index.invariant (search rules) (ap not (ne_eqb _ _ c.if-seen-cell.true))
-
-pub loop-index-preserved : goal.loop-index-preserved
-loop-index-preserved c = search-on c.loop-index.invariant (search rules) (ap not (eq-eqb _ _ c.if-seen-cell.false))
-
 pub returns : goal.returns
-unfolding differs_in
-returns c = search-ends c.loop-index.invariant (search rules)
+returns c = let a = c.args in
+    let first : ℕ = a.line * 8 in
+    let count : ℕ = first + 8 - first in
+    let same : Bool = pointwise eqb (take count (drop first a.seen.now)) (take count (drop first a.kept.now)) in
+    let is : c.ne.result ≡ not same = search rules in
+    is ∙ differs_by a.seen.now a.kept.now a.line count (omega arith) (omega arith) (omega arith) (omega arith) same
+    (slice_eq-Decides Decides-eqb _ _ same refl)

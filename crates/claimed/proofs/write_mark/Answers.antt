@@ -2,7 +2,6 @@
 use Prim.Native.Nat.{ℕ}
 use mathlib.Core.Path.{◌≡◌, ap, ◌∙◌}
 use mathlib.Core.List.{List}
-use Rattle.buffer.specs.Buffers.{written, place_after}
 use Rattle.order.specs.Check.{check_of}
 use Rattle.order.specs.declared.Checked.{Checked}
 use Rattle.print.specs.Printed.{marked_text}
@@ -23,8 +22,7 @@ text-is c =
     ap (λ (checked : Checked). marked_text checked.answer checked.place)
     (check.ensures ∙
     ap (λ (image : List ℕ). check_of image args.pairs.now)
-    (cut_image args.machine c.cut.ensures))
+    (cut_image args.machine c.cut.ensures.image))
 
 pub returns : goal.returns
-returns c = let args = c.args in
-    let text = text-is (goal.at.returns c).After-write_marked in record { value = c.write_marked.ensures.value ∙ ap (place_after args.output.now 0) text; output_after = c.write_marked.ensures.buffer_after ∙ ap (written args.output.now 0) text }
+returns c = rw (text-is (goal.at.returns c).After-write_marked) at c.write_marked.ensures

@@ -1,104 +1,121 @@
-// A history: the accepted steps in the order in which they were taken, four words each: kind, thread, place and value. Steps are numbered
-// from 1, and a search before step n looks at the steps 1 to n - 1.
-ghost use Rattle.std.specs.Prelude.{◌-◌, ◌≤◌};
+// A history: the accepted steps in the order in which they were taken, each known by its place in that order, from 0. What holds before a
+// step holds of the history that ends there.
+//
+// A history and a thread are two parameters, and no struct: what is asked of one history is asked of several threads, and what is asked of
+// one thread, of the history's beginnings.
+use crate::model::Refusal;
 
-pub(crate) const LOAD: u64 = 1;
+// What a step does, by the number that the documents give it. No step has 11. The model's own, since it names nothing of the machine.
+#[derive(Clone, Copy, PartialEq, Eq)]
+pub(crate) enum Kind {
+    Load = 1,
+    Log = 2,
+    Store = 3,
+    Acquire = 4,
+    LogRel = 5,
+    Release = 6,
+    Flush = 7,
+    FlushLog = 8,
+    Fence = 9,
+    Prune = 10,
+    EvictLog = 12,
+    EvictCell = 13,
+    EvictWords = 14,
+}
 
-pub(crate) const LOG: u64 = 2;
+impl TryFrom<u64> for Kind {
+    type Error = Refusal;
 
-pub(crate) const STORE: u64 = 3;
+    // The kind that has this number.
+    fn try_from(number: u64) -> Result<Kind, Refusal> {
+        match number {
+            1 => Ok(Kind::Load),
+            2 => Ok(Kind::Log),
+            3 => Ok(Kind::Store),
+            4 => Ok(Kind::Acquire),
+            5 => Ok(Kind::LogRel),
+            6 => Ok(Kind::Release),
+            7 => Ok(Kind::Flush),
+            8 => Ok(Kind::FlushLog),
+            9 => Ok(Kind::Fence),
+            10 => Ok(Kind::Prune),
+            12 => Ok(Kind::EvictLog),
+            13 => Ok(Kind::EvictCell),
+            14 => Ok(Kind::EvictWords),
+            _ => Err(Refusal::NoKind),
+        }
+    }
+}
 
-pub(crate) const ACQUIRE: u64 = 4;
+// A step.
+#[derive(Clone, Copy)]
+pub(crate) struct Step {
+    pub(crate) kind: Kind,
+    pub(crate) thread: u64,
+    pub(crate) place: u64,
+    pub(crate) value: u64,
+}
 
-pub(crate) const LOGREL: u64 = 5;
+impl Step {
+    // A LOAD, where a place of a list is not in use yet.
+    pub(crate) const NONE: Step = Step {
+        kind: Kind::Load,
+        thread: 0,
+        place: 0,
+        value: 0,
+    };
+}
 
-pub(crate) const RELEASE: u64 = 6;
-
-pub(crate) const FLUSH: u64 = 7;
-
-pub(crate) const FLUSHLOG: u64 = 8;
-
-pub(crate) const FENCE: u64 = 9;
-
-pub(crate) const PRUNE: u64 = 10;
-
-pub(crate) const EVICTLOG: u64 = 12;
-
-pub(crate) const EVICTCELL: u64 = 13;
-
-pub(crate) const EVICTWORDS: u64 = 14;
-
-// The number between those of the kinds that no kind has.
-pub(crate) const RETIRED: u64 = 11;
-
-// More kinds to look for, which no step has that is tried: a step that makes an entry (LOG, ACQUIRE or LOGREL), a STORE to any cell of the
-// line that is the place, and a LOG that makes an entry.
-pub(crate) const ENTRY: u64 = 1001;
-
-pub(crate) const STORE_IN_LINE: u64 = 1002;
-
-pub(crate) const FIRST_LOG: u64 = 1003;
-
-// And four in a row, for an entry's words kind, place, value and rank: an eviction that keeps this word of the slot that is the place.
-pub(crate) const KEPT_WORD: u64 = 1004;
-
-// Looked for as thread or place, it fits every step: no accepted step has it there.
-pub(crate) const ANY: u64 = 18446744073709551615;
-
-// A word of a slice, and 0 past its end.
+// A word of a list, and 0 past its end.
 pub(crate) fn at(words: &[u64], index: usize) -> u64 {
-    if index < words.len() { words[index] } else { 0 }
+    words.get(index).copied().unwrap_or(0)
 }
 
-// The number after the last step's: what a new step would have.
-pub(crate) fn next_step(past: &[u64]) -> usize {
-    past.len() / 4 + 1
+// The history before a step.
+pub(crate) fn before(past: &[Step], step: usize) -> &[Step] {
+    past.get(..step).unwrap_or(past)
 }
 
-// One of the four words of a step, and 0 where there is no such step.
-fn word(past: &[u64], step: usize, field: usize) -> u64 {
-    if step == 0 {
-        return 0;
-    }
-    if past.len() / 4 < step {
-        return 0;
-    }
-    if 3 < field {
-        return 0;
-    }
-    past[(step - 1) * 4 + field]
+// The history from a step on.
+pub(crate) fn from(past: &[Step], step: usize) -> &[Step] {
+    past.get(step..).unwrap_or(&[])
 }
 
-pub(crate) fn kind_of(past: &[u64], step: usize) -> u64 {
-    word(past, step, 0)
+// The step at this place is of the kind.
+pub(crate) fn is_kind(past: &[Step], step: usize, kind: Kind) -> bool {
+    past.get(step).is_some_and(|step| step.kind == kind)
 }
 
-pub(crate) fn thread_of(past: &[u64], step: usize) -> u64 {
-    word(past, step, 1)
+// The last step of the kind by the thread.
+pub(crate) fn last_of(past: &[Step], kind: Kind, thread: u64) -> Option<usize> {
+    past.iter()
+        .rposition(|step| step.kind == kind && step.thread == thread)
 }
 
-pub(crate) fn place_of(past: &[u64], step: usize) -> u64 {
-    word(past, step, 2)
+// The last step of the kind at the place.
+pub(crate) fn last_at(past: &[Step], kind: Kind, place: u64) -> Option<usize> {
+    past.iter()
+        .rposition(|step| step.kind == kind && step.place == place)
 }
 
-pub(crate) fn value_of(past: &[u64], step: usize) -> u64 {
-    word(past, step, 3)
+// There is such a later step, and it comes after this one.
+pub(crate) fn is_after(later: Option<usize>, step: usize) -> bool {
+    later.is_some_and(|later| step < later)
 }
 
-// The thread of a LOG step logged the cell before and took no ACQUIRE and no LOGREL since then: the cell has an entry in the current
-// region, and the step makes none.
-fn logs_again(past: &[u64], step: usize) -> bool {
-    let thread = thread_of(past, step);
-    let cell = place_of(past, step);
-    let mut earlier = step;
-    while 1 < earlier {
-        earlier -= 1;
-        if thread_of(past, earlier) == thread {
-            let kind = kind_of(past, earlier);
-            if kind == ACQUIRE || kind == LOGREL {
+// The step that began something, unless the one that ends it came after.
+pub(crate) fn unless_ended(began: Option<usize>, ended: Option<usize>) -> Option<usize> {
+    began.filter(|step| !is_after(ended, *step))
+}
+
+// The cell has an entry in the thread's current region: the thread logged it, and took no ACQUIRE and no LOGREL since then.
+fn has_entry(past: &[Step], thread: u64, cell: u64) -> bool {
+    for step in past.iter().rev() {
+        if step.thread == thread {
+            if matches!(step.kind, Kind::Acquire | Kind::LogRel) {
                 return false;
             }
-            if kind == LOG && place_of(past, earlier) == cell {
+            if step.kind == Kind::Log && step.place == cell {
                 return true;
             }
         }
@@ -106,85 +123,26 @@ fn logs_again(past: &[u64], step: usize) -> bool {
     false
 }
 
-// The step is a LOG that makes an entry.
-fn is_first_log(past: &[u64], step: usize) -> bool {
-    if kind_of(past, step) == LOG {
-        return !logs_again(past, step);
-    }
-    false
-}
-
-// The step makes an entry.
-fn is_entry(past: &[u64], step: usize) -> bool {
-    let kind = kind_of(past, step);
-    kind == ACQUIRE || kind == LOGREL || is_first_log(past, step)
-}
-
-// The step is an eviction that keeps the word of its slot with so many words before it: an EVICTLOG keeps all four, and an EVICTWORDS the
-// first ones, as many as its value says.
-fn keeps_word(past: &[u64], step: usize, earlier: u64) -> bool {
-    let kind = kind_of(past, step);
-    kind == EVICTLOG || kind == EVICTWORDS && earlier < value_of(past, step)
-}
-
-// The step has this kind and place.
-fn is_at(past: &[u64], step: usize, kind: u64, place: u64) -> bool {
-    if kind == STORE_IN_LINE {
-        return kind_of(past, step) == STORE && place_of(past, step) / 8 == place;
-    }
-    if place != ANY && place_of(past, step) != place {
+// The step at this place is a LOG by the thread that makes an entry: the cell had none in the current region.
+fn is_first_log(past: &[Step], thread: u64, step: usize) -> bool {
+    let Some(log) = past.get(step) else {
         return false;
-    }
-    if kind == ENTRY {
-        return is_entry(past, step);
-    }
-    if kind == FIRST_LOG {
-        return is_first_log(past, step);
-    }
-    if KEPT_WORD <= kind {
-        return keeps_word(past, step, kind - KEPT_WORD);
-    }
-    kind_of(past, step) == kind
+    };
+    log.kind == Kind::Log
+        && log.thread == thread
+        && !has_entry(before(past, step), thread, log.place)
 }
 
-// The step has this kind, thread and place.
-pub(crate) fn is_step(past: &[u64], step: usize, kind: u64, thread: u64, place: u64) -> bool {
-    if thread != ANY && thread_of(past, step) != thread {
+// The step at this place is a LOG of the cell by the thread that makes an entry.
+pub(crate) fn is_first_log_of(past: &[Step], thread: u64, cell: u64, step: usize) -> bool {
+    is_first_log(past, thread, step) && past.get(step).is_some_and(|log| log.place == cell)
+}
+
+// The step at this place makes an entry of the thread: it is a LOG of a cell with none in the current region, an ACQUIRE or a LOGREL.
+pub(crate) fn is_entry(past: &[Step], thread: u64, step: usize) -> bool {
+    let Some(made) = past.get(step) else {
         return false;
-    }
-    is_at(past, step, kind, place)
-}
-
-// The last step of this kind, thread and place before a step, and 0 where there is none.
-pub(crate) fn last(past: &[u64], kind: u64, thread: u64, place: u64, before: usize) -> usize {
-    let mut step = before;
-    while 1 < step {
-        step -= 1;
-        if is_step(past, step, kind, thread, place) {
-            return step;
-        }
-    }
-    0
-}
-
-// How many steps of this kind, thread and place there are from a step on and before another.
-pub(crate) fn count(
-    past: &[u64],
-    kind: u64,
-    thread: u64,
-    place: u64,
-    from: usize,
-    before: usize,
-) -> usize
-    ensures { result ≤ before - from }
-{
-    let mut found = 0;
-    let mut step = from;
-    while step < before {
-        if is_step(past, step, kind, thread, place) {
-            found += 1;
-        }
-        step += 1;
-    }
-    found
+    };
+    made.thread == thread
+        && (matches!(made.kind, Kind::Acquire | Kind::LogRel) || is_first_log(past, thread, step))
 }

@@ -1,236 +1,195 @@
 // Whole logs: a thread's entries are the LOG, ACQUIRE and LOGREL steps it took, each known by its step, without the LOGs of a cell with an
 // entry in the current region. None is ever forgotten; the head says which are live.
-ghost use Rattle.std.specs.Prelude.{◌-◌, ◌≤◌};
+ghost use Rattle.std.specs.Prelude.{MatchOption, ⊤, ◌<◌, length};
 
-use crate::model::history::ANY;
-use crate::model::{history, model_cells};
+use crate::model::history::{
+    Kind, Step, before, is_after, is_entry, is_first_log_of, is_kind, last_at, last_of,
+    unless_ended,
+};
+use crate::model::model_cells;
 
-// An entry's rank: its place among the thread's entries, from 1.
-pub(crate) fn rank(past: &[u64], thread: u64, entry: usize) -> usize {
-    history::count(past, history::ENTRY, thread, ANY, 1, entry) + 1
+// How many entries the thread made from a step on.
+pub(crate) fn entries_from(past: &[Step], thread: u64, from: usize) -> usize {
+    (from..past.len())
+        .filter(|step| is_entry(past, thread, *step))
+        .count()
 }
 
-// The entry begins a region: it is the thread's first or an ACQUIRE, or it follows a RELEASE entry.
-fn begins_region(past: &[u64], entry: usize) -> bool {
-    let thread = history::thread_of(past, entry);
-    let earlier = history::last(past, history::ENTRY, thread, ANY, entry);
-    if earlier == 0 {
+// An entry's rank: its place among the thread's entries, from 1. A step that is none has the rank that the thread's next entry would have.
+pub(crate) fn rank(past: &[Step], thread: u64, entry: usize) -> usize {
+    entries_from(before(past, entry), thread, 0).saturating_add(1)
+}
+
+// The thread's last entry.
+pub(crate) fn last_entry(past: &[Step], thread: u64) -> Option<usize> {
+    (0..past.len())
+        .rev()
+        .find(|step| is_entry(past, thread, *step))
+}
+
+// The step at this place is an entry of the thread that begins a region: it is the thread's first or an ACQUIRE, or it follows a RELEASE
+// entry.
+fn begins_region(past: &[Step], thread: u64, step: usize) -> bool {
+    if !is_entry(past, thread, step) {
+        return false;
+    }
+    let Some(earlier) = last_entry(before(past, step), thread) else {
         return true;
-    }
-    history::kind_of(past, entry) == history::ACQUIRE
-        || history::kind_of(past, earlier) == history::LOGREL
+    };
+    is_kind(past, step, Kind::Acquire) || is_kind(past, earlier, Kind::LogRel)
 }
 
-// The first entry of the thread's region that has so many regions before it; where there is no such region, the step before which was
-// looked.
-fn region(past: &[u64], thread: u64, earlier: usize, before: usize) -> usize {
-    let mut left = earlier;
-    let mut step = 1;
-    while step < before {
-        if history::is_step(past, step, history::ENTRY, thread, ANY) {
-            if begins_region(past, step) {
-                if left == 0 {
-                    return step;
-                }
-                left -= 1;
-            }
-        }
-        step += 1;
-    }
-    before
+// The first entry of the thread's region that has so many regions before it.
+fn region(past: &[Step], thread: u64, earlier: usize) -> Option<usize> {
+    (0..past.len())
+        .filter(|step| begins_region(past, thread, *step))
+        .nth(earlier)
 }
 
-// The first entry of the thread's oldest region not yet pruned: each PRUNE moved the head past one region. Live entries are those from
-// here on.
-pub(crate) fn head(past: &[u64], thread: u64, before: usize) -> usize {
-    region(
-        past,
-        thread,
-        history::count(past, history::PRUNE, thread, ANY, 1, before),
-        before,
-    )
+// How many of the thread's regions are pruned: each PRUNE moved the head past one.
+fn pruned(past: &[Step], thread: u64) -> usize {
+    past.iter()
+        .filter(|step| step.kind == Kind::Prune && step.thread == thread)
+        .count()
+}
+
+// The first entry of the thread's oldest region not yet pruned. Live entries are those from here on.
+pub(crate) fn head(past: &[Step], thread: u64) -> Option<usize> {
+    region(past, thread, pruned(past, thread))
 }
 
 // The first entry of the region after the thread's oldest one not yet pruned.
-pub(crate) fn after_head(past: &[u64], thread: u64, before: usize) -> usize {
-    region(
-        past,
-        thread,
-        history::count(past, history::PRUNE, thread, ANY, 1, before) + 1,
-        before,
-    )
+pub(crate) fn after_head(past: &[Step], thread: u64) -> Option<usize> {
+    region(past, thread, pruned(past, thread).saturating_add(1))
 }
 
-// An entry is firm where its thread took a FLUSHLOG after it and a FENCE after that. Then all entries made before it are
-// firm too.
-pub(crate) fn is_firm(past: &[u64], thread: u64, entry: usize, before: usize) -> bool {
-    let fenced = history::last(past, history::FENCE, thread, ANY, before);
-    entry < history::last(past, history::FLUSHLOG, thread, ANY, fenced)
+// An entry is firm where its thread took a FLUSHLOG after it and a FENCE after that. Then all entries made before it are firm too.
+pub(crate) fn is_firm(past: &[Step], thread: u64, entry: usize) -> bool {
+    let Some(fenced) = last_of(past, Kind::Fence, thread) else {
+        return false;
+    };
+    is_marked(before(past, fenced), thread, entry)
 }
 
 // An entry is marked where its thread took a FLUSHLOG after it.
-fn is_marked(past: &[u64], thread: u64, entry: usize, before: usize) -> bool {
-    entry < history::last(past, history::FLUSHLOG, thread, ANY, before)
-}
-
-// The step made an entry of the thread that is marked and not yet firm.
-fn is_unfenced(past: &[u64], thread: u64, step: usize, before: usize) -> bool {
-    if !history::is_step(past, step, history::ENTRY, thread, ANY) {
-        return false;
-    }
-    is_marked(past, thread, step, before) && !is_firm(past, thread, step, before)
+fn is_marked(past: &[Step], thread: u64, entry: usize) -> bool {
+    is_after(last_of(past, Kind::FlushLog, thread), entry)
 }
 
 // How many of the thread's entries are marked and not yet firm.
-pub(crate) fn unfenced(past: &[u64], thread: u64, before: usize) -> usize {
-    let mut found: usize = 0;
-    let mut step = 1;
-    while step < before {
-        if is_unfenced(past, thread, step, before) {
-            found += 1;
-        }
-        step += 1;
-    }
-    found
+pub(crate) fn unfenced(past: &[Step], thread: u64) -> usize {
+    (0..past.len())
+        .filter(|step| {
+            is_entry(past, thread, *step)
+                && is_marked(past, thread, *step)
+                && !is_firm(past, thread, *step)
+        })
+        .count()
 }
 
-// The thread's RELEASE entry while it is closing, and 0 where it is not.
-pub(crate) fn closing(past: &[u64], thread: u64, before: usize) -> usize {
-    let logged = history::last(past, history::LOGREL, thread, ANY, before);
-    if logged < history::last(past, history::RELEASE, thread, ANY, before) {
-        return 0;
-    }
-    logged
+// The thread's RELEASE entry while it is closing.
+pub(crate) fn closing(past: &[Step], thread: u64) -> Option<usize> {
+    unless_ended(
+        last_of(past, Kind::LogRel, thread),
+        last_of(past, Kind::Release, thread),
+    )
 }
 
-// The cell's entry in the thread's current region, which began with the last ACQUIRE or after the last RELEASE entry; 0 where it has none.
-pub(crate) fn logged(past: &[u64], thread: u64, cell: u64, before: usize) -> usize {
-    let entry = history::last(past, history::FIRST_LOG, thread, cell, before);
-    if entry < history::last(past, history::ACQUIRE, thread, ANY, before) {
-        return 0;
+// The cell's entry in the thread's current region, which began with the last ACQUIRE or after the last RELEASE entry.
+pub(crate) fn logged(past: &[Step], thread: u64, cell: u64) -> Option<usize> {
+    let entry = (0..past.len())
+        .rev()
+        .find(|step| is_first_log_of(past, thread, cell, *step))?;
+    if is_after(last_of(past, Kind::Acquire, thread), entry) {
+        return None;
     }
-    if entry < history::last(past, history::LOGREL, thread, ANY, before) {
-        return 0;
+    if is_after(last_of(past, Kind::LogRel, thread), entry) {
+        return None;
     }
-    entry
+    Some(entry)
 }
 
 // The step made the RELEASE entry of the lock in which a region ends that is pruned.
-fn is_pruned_release(past: &[u64], step: usize, lock: u64, before: usize) -> bool {
-    if history::is_step(past, step, history::LOGREL, ANY, lock) {
-        return step < head(past, history::thread_of(past, step), before);
+fn is_pruned_release(past: &[Step], lock: u64, step: usize) -> bool {
+    let Some(release) = past.get(step) else {
+        return false;
+    };
+    if release.kind != Kind::LogRel || release.place != lock {
+        return false;
     }
-    false
+    let Some(head) = head(past, release.thread) else {
+        return true;
+    };
+    step < head
 }
 
 // How many of the regions that end in a RELEASE of the lock are pruned, in all logs.
-pub(crate) fn pruned_releases(past: &[u64], lock: u64, before: usize) -> usize {
-    let mut found: usize = 0;
-    let mut step = 1;
-    while step < before {
-        if is_pruned_release(past, step, lock, before) {
-            found += 1;
-        }
-        step += 1;
-    }
-    found
+pub(crate) fn pruned_releases(past: &[Step], lock: u64) -> usize {
+    (0..past.len())
+        .filter(|step| is_pruned_release(past, lock, *step))
+        .count()
 }
 
-// From an entry on and before another, the thread logged a cell that is not firm.
-pub(crate) fn logged_unfirm(
-    past: &[u64],
-    thread: u64,
-    from: usize,
-    to: usize,
-    before: usize,
-) -> bool {
-    let mut step = from;
-    while step < to {
-        if history::is_step(past, step, history::LOG, thread, ANY) {
-            if !model_cells::is_firm(past, history::place_of(past, step), before) {
-                return true;
-            }
-        }
-        step += 1;
-    }
-    false
+// In a part of the history, the thread logged a cell that is not firm after all of it.
+pub(crate) fn logged_unfirm(past: &[Step], thread: u64, part: &[Step]) -> bool {
+    part.iter().any(|step| {
+        step.kind == Kind::Log && step.thread == thread && !model_cells::is_firm(past, step.place)
+    })
 }
 
-// The thread's entry that has so many entries before it, and 0 where there is none.
-fn entry_after(past: &[u64], thread: u64, earlier: usize, before: usize) -> usize
-    ensures { result ≤ before - 1 }
+// The last entry that was put into the slot, which is rank mod 64; none where the slot is untouched.
+pub(crate) fn in_slot(past: &[Step], thread: u64, slot: u64) -> Option<usize>
+    ensures { MatchOption result ⊤ (λ entry. entry < length past.now) }
 {
-    let mut left = earlier;
-    let mut step = 1;
-    while step < before {
-        if history::is_step(past, step, history::ENTRY, thread, ANY) {
-            if left == 0 {
-                return step;
-            }
-            left -= 1;
-        }
-        step += 1;
-    }
-    0
+    let made = entries_from(past, thread, 0);
+    let since = (made % 64 + 64 - (slot % 64) as usize) % 64;
+    let earlier = made.checked_sub(since + 1)?;
+    (0..past.len())
+        .filter(|step| is_entry(past, thread, *step))
+        .nth(earlier)
 }
 
-// The last entry that was put into the slot, which is rank mod 64, and 0 where the slot is untouched.
-pub(crate) fn in_slot(past: &[u64], thread: u64, slot: usize, before: usize) -> usize
-    ensures { result ≤ before - 1 }
-{
-    let made = history::count(past, history::ENTRY, thread, ANY, 1, before);
-    let since = (made % 64 + 64 - slot % 64) % 64;
-    if made <= since {
-        return 0;
-    }
-    entry_after(past, thread, made - since - 1, before)
+// A word of an entry, in their order in the slot: an EVICTWORDS keeps the first ones.
+#[derive(Clone, Copy)]
+pub(crate) enum Word {
+    Kind = 0,
+    Place = 1,
+    Value = 2,
+    Rank = 3,
 }
 
-// The entry whose word is kept in the slot at a field (0 kind, 1 place, 2 value, 3 rank), and 0 where none is: the last one that is firm
-// or that an eviction of this word found there.
-pub(crate) fn kept_in_slot(
-    past: &[u64],
-    thread: u64,
-    slot: usize,
-    field: usize,
-    before: usize,
-) -> usize {
-    let eviction = history::KEPT_WORD + (field % 4) as u64;
-    let mut until = before;
-    while 1 < until {
-        let entry = in_slot(past, thread, slot, until);
-        if is_firm(past, thread, entry, before) {
-            return entry;
+// The step is an eviction that keeps the word of the thread's slot: an EVICTLOG keeps all four, and an EVICTWORDS the first ones, as many
+// as its value says.
+fn keeps(step: Step, thread: u64, slot: u64, word: Word) -> bool {
+    step.thread == thread
+        && step.place == slot
+        && (step.kind == Kind::EvictLog
+            || step.kind == Kind::EvictWords && (word as u64) < step.value)
+}
+
+// The entry whose word is kept in the slot: the last one that is firm or that an eviction of this word found there.
+pub(crate) fn kept_in_slot(past: &[Step], thread: u64, slot: u64, word: Word) -> Option<usize> {
+    let mut until = past;
+    while let Some(entry) = in_slot(until, thread, slot) {
+        let evicted = until
+            .iter()
+            .rposition(|step| keeps(*step, thread, slot, word));
+        if is_firm(past, thread, entry) || is_after(evicted, entry) {
+            return Some(entry);
         }
-        if entry < history::last(past, eviction, thread, slot as u64, until) {
-            return entry;
-        }
-        until = entry;
+        until = &until[..entry];
     }
-    0
+    None
 }
 
 // The slot of an EVICTWORDS is torn: it keeps an entry's kind and not its rank. The rank is then that of an older entry, or 0.
-fn is_torn(past: &[u64], step: usize, is_over_entry: bool, before: usize) -> bool {
-    let thread = history::thread_of(past, step);
-    let slot = history::place_of(past, step) as usize;
-    let ranked = kept_in_slot(past, thread, slot, 3, before);
-    if ranked == kept_in_slot(past, thread, slot, 0, before) {
-        return false;
-    }
-    (0 < ranked) == is_over_entry
+fn is_torn(past: &[Step], eviction: Step, is_over_entry: bool) -> bool {
+    let ranked = kept_in_slot(past, eviction.thread, eviction.place, Word::Rank);
+    ranked != kept_in_slot(past, eviction.thread, eviction.place, Word::Kind)
+        && ranked.is_some() == is_over_entry
 }
 
 // Some slot is torn, over an older entry or over zeros. Only an EVICTWORDS leaves a slot so.
-pub(crate) fn has_torn(past: &[u64], is_over_entry: bool, before: usize) -> bool {
-    let mut step = before;
-    while 1 < step {
-        step -= 1;
-        if history::kind_of(past, step) == history::EVICTWORDS {
-            if is_torn(past, step, is_over_entry, before) {
-                return true;
-            }
-        }
-    }
-    false
+pub(crate) fn has_torn(past: &[Step], is_over_entry: bool) -> bool {
+    past.iter().any(|step| step.kind == Kind::EvictWords && is_torn(past, *step, is_over_entry))
 }

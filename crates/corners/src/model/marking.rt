@@ -1,128 +1,107 @@
 // Marking a claimed undo order of an image of 1,156 words: a list of pairs, thread and rank. It goes by the places at which the list names
 // the entries: nothing is taken, and nothing is known of what remains.
 //
-// Entries have numbers here, 64 to a thread: the one that is so many ranks after a thread's head has 64 times the thread and so many.
-use crate::model::history;
-use crate::model::recovering::{all_present, is_larger, kept_cells, remaining, word, write_back};
+// An image and pairs are two parameters, and no struct: of one image, all pairs are asked or those before a place.
+use crate::model::recovering::{
+    EntryKind, Left, all_present, entry_after, is_larger, kept_cells, rank_after, remaining,
+    write_back,
+};
 
-// The number of no entry, but of the end of the list.
-const END: usize = 256;
+// A pair of a list: a thread and a rank.
+pub(crate) type Pair = [u64; 2];
 
-// The entry is present.
-fn is_present(present: &[u64; 4], entry: usize) -> bool {
-    ((entry % 64) as u64) < remaining(present, entry / 64)
+// An entry by its thread, and by how many ranks it is after the head.
+#[derive(Clone, Copy)]
+struct Place {
+    thread: u64,
+    ahead: u64,
 }
 
-// The list names the entry at the place.
-fn names(image: &[u64], list: &[u64], place: usize, entry: usize) -> bool {
-    let at = place % 1000 * 2;
-    if history::at(list, at) != (entry / 64) as u64 {
-        return false;
-    }
-    history::at(list, at + 1) == word(image, entry / 64, entry % 64, 3)
+// The pair names the entry.
+fn names(image: &[u64], pair: Pair, named: Place) -> bool {
+    pair[0] == named.thread && pair[1] == rank_after(image, named.thread, named.ahead)
 }
 
-// The entry is named at one of the list's first so many places.
-fn is_named(image: &[u64], list: &[u64], places: usize, entry: usize) -> bool {
-    let mut place = 0;
-    while place < places {
-        if names(image, list, place, entry) {
-            return true;
-        }
-        place += 1;
-    }
-    false
+// The entry is named by one of the pairs.
+fn is_named(image: &[u64], pairs: &[Pair], named: Place) -> bool {
+    pairs.iter().any(|pair| names(image, *pair, named))
 }
 
-// The present entry that the list names at the place, and the end where it names none.
-fn entry_at(image: &[u64], present: &[u64; 4], list: &[u64], place: usize) -> usize {
-    let mut entry = 0;
-    while entry < END {
-        if is_present(present, entry) {
-            if names(image, list, place, entry) {
-                return entry;
-            }
-        }
-        entry += 1;
-    }
-    END
+// The present entry that the pair names.
+fn entry_named(image: &[u64], present: &Left, pair: Pair) -> Option<Place> {
+    let thread = pair[0];
+    let ahead = (0..remaining(present, thread)).find(|ahead| names(
+        image,
+        pair,
+        Place {
+            thread,
+            ahead: *ahead,
+        },
+    ))?;
+    Some(Place { thread, ahead })
 }
 
 // The second entry is a RELEASE, and the first an ACQUIRE of that lock with a larger count.
-fn is_awaited(image: &[u64], first: usize, second: usize) -> bool {
-    let thread = second / 64;
-    let ahead = second % 64;
-    if word(image, thread, ahead, 0) != 3 {
+fn is_awaited(image: &[u64], first: Place, second: Place) -> bool {
+    let release = entry_after(image, second.thread, second.ahead);
+    if release.kind != Some(EntryKind::Release) {
         return false;
     }
-    let lock = word(image, thread, ahead, 1);
-    let count = word(image, thread, ahead, 2);
-    is_larger(image, first / 64, first % 64, lock, count)
+    let acquire = entry_after(image, first.thread, first.ahead);
+    is_larger(acquire, release.place, release.value)
 }
 
 // The first entry is to be named before the second: it is of the same thread and has the larger rank, or the second may not be taken while
-// it remains. Every entry is to be named before the end.
-fn comes_before(image: &[u64], first: usize, second: usize) -> bool {
-    if second == END {
+// it remains. Every entry is to be named before the end, where there is no second.
+fn comes_before(image: &[u64], first: Place, second: Option<Place>) -> bool {
+    let Some(second) = second else {
         return true;
-    }
-    if first / 64 == second / 64 {
-        if second < first {
-            return true;
-        }
-    }
-    is_awaited(image, first, second)
+    };
+    first.thread == second.thread && second.ahead < first.ahead || is_awaited(image, first, second)
 }
 
-// Some entry that is to be named before this one is named at none of the list's first so many places.
-fn waits(image: &[u64], present: &[u64; 4], list: &[u64], places: usize, entry: usize) -> bool {
-    let mut other = 0;
-    while other < END {
-        if is_present(present, other) {
-            if comes_before(image, other, entry) {
-                if !is_named(image, list, places, other) {
-                    return true;
-                }
-            }
-        }
-        other += 1;
-    }
-    false
+// The first entry is to be named before the second, and none of these pairs names it.
+fn is_missed(image: &[u64], pairs: &[Pair], first: Place, second: Option<Place>) -> bool {
+    comes_before(image, first, second) && !is_named(image, pairs, first)
+}
+
+// Some present entry of the thread that is to be named before this one is named by none of these pairs.
+fn waits_for(image: &[u64], count: u64, pairs: &[Pair], thread: u64, named: Option<Place>) -> bool {
+    (0..count).any(|ahead| is_missed(image, pairs, Place { thread, ahead }, named))
+}
+
+// Some present entry that is to be named before this one is named by none of these pairs.
+fn waits(image: &[u64], present: &Left, pairs: &[Pair], named: Option<Place>) -> bool {
+    (0..4).any(|thread| waits_for(image, remaining(present, thread), pairs, thread, named))
 }
 
 // The pair at the place is bad: it names no present entry, or one that is named before, or one before which another is to be named. The
 // end of the list is bad where entries are missing.
-fn is_bad(image: &[u64], present: &[u64; 4], list: &[u64], place: usize) -> bool {
-    if place == list.len() / 2 {
-        return waits(image, present, list, place, END);
-    }
-    let entry = entry_at(image, present, list, place);
-    entry == END || is_named(image, list, place, entry) || waits(image, present, list, place, entry)
+fn is_bad(image: &[u64], present: &Left, pairs: &[Pair], place: usize) -> bool {
+    let before = pairs.get(..place).unwrap_or(pairs);
+    let Some(pair) = pairs.get(place) else {
+        return waits(image, present, before, None);
+    };
+    let Some(named) = entry_named(image, present, *pair) else {
+        return true;
+    };
+    is_named(image, before, named) || waits(image, present, before, Some(named))
 }
 
-// The first place that is bad, the number of pairs being the end's, and a larger number where none is.
-pub(crate) fn first_bad(image: &[u64], list: &[u64]) -> usize {
+// The first place that is bad, the number of pairs being the end's.
+pub(crate) fn first_bad(image: &[u64], pairs: &[Pair]) -> Option<usize> {
     let present = all_present(image);
-    let end = list.len() / 2;
-    let mut place = 0;
-    while place <= end {
-        if is_bad(image, &present, list, place) {
-            return place;
-        }
-        place += 1;
-    }
-    place
+    (0..=pairs.len()).find(|place| is_bad(image, &present, pairs, *place))
 }
 
 // The cells that the kept ones come to when the entries that a list names are undone in its order.
-pub(crate) fn undone(image: &[u64], list: &[u64]) -> [u64; 128] {
+pub(crate) fn undone(image: &[u64], pairs: &[Pair]) -> [u64; 128] {
     let mut cells = kept_cells(image);
     let present = all_present(image);
-    let mut place = 0;
-    while place < list.len() / 2 {
-        let entry = entry_at(image, &present, list, place);
-        write_back(image, &mut cells, entry / 64, entry % 64);
-        place += 1;
+    for pair in pairs {
+        if let Some(named) = entry_named(image, &present, *pair) {
+            write_back(&mut cells, entry_after(image, named.thread, named.ahead));
+        }
     }
     cells
 }

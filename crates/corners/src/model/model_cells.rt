@@ -1,93 +1,79 @@
-// Cells and locks: what each holds just before the step with the number `before`.
-ghost use Rattle.std.specs.Prelude.{◌≤◌};
-
-use crate::model::history;
-use crate::model::history::ANY;
-
-// The start cell; 0 where the start is not of 128 words.
-fn start_cell(start: &[u64], cell: u64) -> u64 {
-    if start.len() != 128 {
-        return 0;
-    }
-    history::at(start, cell as usize)
-}
+// Cells and locks: what each holds after a history.
+use crate::model::Run;
+use crate::model::history::{Kind, Step, at, before, is_after, last_at, last_of, unless_ended};
 
 // A cell's seen content: what the last STORE of it set, or the start cell.
-pub(crate) fn seen(start: &[u64], past: &[u64], cell: u64, before: usize) -> u64 {
-    let stored = history::last(past, history::STORE, ANY, cell, before);
-    if stored == 0 {
-        return start_cell(start, cell);
+pub(crate) fn seen(run: Run, cell: u64) -> u64 {
+    let start = run.start;
+    let past = run.past;
+    let stored = past
+        .iter()
+        .rfind(|step| step.kind == Kind::Store && step.place == cell);
+    match stored {
+        Some(step) => step.value,
+        None => at(start, cell as usize),
     }
-    history::value_of(past, stored)
 }
 
 // The thread has its mark on the line: it flushed the line, and since then nobody stored to the line and the thread took no FENCE.
-fn is_marked(past: &[u64], thread: u64, line: u64, before: usize) -> bool {
-    let flushed = history::last(past, history::FLUSH, thread, line, before);
-    if flushed <= history::last(past, history::STORE_IN_LINE, ANY, line, before) {
+fn is_marked(past: &[Step], thread: u64, line: u64) -> bool {
+    let flush = past.iter().rposition(|step| step.kind == Kind::Flush
+        && step.thread == thread
+        && step.place == line);
+    let Some(flushed) = flush else {
         return false;
-    }
-    history::last(past, history::FENCE, thread, ANY, before) < flushed
+    };
+    let stored = past
+        .iter()
+        .rposition(|step| step.kind == Kind::Store && step.place / 8 == line);
+    !is_after(stored, flushed) && !is_after(last_of(past, Kind::Fence, thread), flushed)
 }
 
 // How many of the 16 lines have the thread's mark.
-pub(crate) fn marked_lines(past: &[u64], thread: u64, before: usize) -> u64
-    ensures { result ≤ 16 }
-{
-    let mut found: u64 = 0;
-    let mut line: u64 = 0;
-    while line < 16 {
-        if is_marked(past, thread, line, before) {
-            found += 1;
-        }
-        line += 1;
-    }
-    found
+pub(crate) fn marked_lines(past: &[Step], thread: u64) -> usize {
+    (0..16)
+        .filter(|line| is_marked(past, thread, *line))
+        .count()
 }
 
-// The last FENCE whose thread had its mark on the line, and 0 where there is none.
-fn last_fence(past: &[u64], line: u64, before: usize) -> usize {
-    let mut step = before;
-    while 1 < step {
-        step -= 1;
-        if history::kind_of(past, step) == history::FENCE {
-            if is_marked(past, history::thread_of(past, step), line, step) {
-                return step;
-            }
-        }
-    }
-    0
+// The step at this place is a FENCE whose thread had its mark on the line.
+fn fences(past: &[Step], line: u64, step: usize) -> bool {
+    past.get(step).is_some_and(|fence| {
+        fence.kind == Kind::Fence && is_marked(before(past, step), fence.thread, line)
+    })
+}
+
+// The last FENCE whose thread had its mark on the line.
+fn last_fence(past: &[Step], line: u64) -> Option<usize> {
+    (0..past.len()).rev().find(|step| fences(past, line, *step))
 }
 
 // A cell is firm at the start, and a STORE of it ends that until a FENCE keeps its line.
-pub(crate) fn is_firm(past: &[u64], cell: u64, before: usize) -> bool {
-    let stored = history::last(past, history::STORE, ANY, cell, before);
-    if stored == 0 {
+pub(crate) fn is_firm(past: &[Step], cell: u64) -> bool {
+    let Some(stored) = last_at(past, Kind::Store, cell) else {
         return true;
-    }
-    stored < last_fence(past, cell / 8, before)
+    };
+    is_after(last_fence(past, cell / 8), stored)
 }
 
 // A cell's kept content: what was seen in it when it was last kept, with its line by a FENCE or alone by an EVICTCELL, or the start cell.
-pub(crate) fn kept(start: &[u64], past: &[u64], cell: u64, before: usize) -> u64 {
-    let fenced = last_fence(past, cell / 8, before);
-    let evicted = history::last(past, history::EVICTCELL, ANY, cell, before);
-    if fenced < evicted {
-        return seen(start, past, cell, evicted);
-    }
-    seen(start, past, cell, fenced)
+pub(crate) fn kept(run: Run, cell: u64) -> u64 {
+    let fenced = last_fence(run.past, cell / 8).unwrap_or(0);
+    let evicted = last_at(run.past, Kind::EvictCell, cell).unwrap_or(0);
+    seen(run.before(fenced.max(evicted)), cell)
 }
 
 // A lock's count: how often it was released.
-pub(crate) fn lock_count(past: &[u64], lock: u64, before: usize) -> usize {
-    history::count(past, history::RELEASE, ANY, lock, 1, before)
+pub(crate) fn lock_count(past: &[Step], lock: u64) -> usize {
+    past.iter()
+        .filter(|step| step.kind == Kind::Release && step.place == lock)
+        .count()
 }
 
-// The ACQUIRE by which a lock is held, and 0 where nobody holds it.
-pub(crate) fn holding(past: &[u64], lock: u64, before: usize) -> usize {
-    let acquired = history::last(past, history::ACQUIRE, ANY, lock, before);
-    if acquired < history::last(past, history::RELEASE, ANY, lock, before) {
-        return 0;
-    }
-    acquired
+// The ACQUIRE by which a lock is held.
+pub(crate) fn holding(past: &[Step], lock: u64) -> Option<usize> {
+    unless_ended(
+        last_at(past, Kind::Acquire, lock),
+        last_at(past, Kind::Release, lock),
+    )
 }

@@ -1,62 +1,73 @@
 // The image of a cut, word by word: 128 kept cells, 4 heads, and each thread's 64 slots of four words.
-use crate::model::{history, logs, model_cells};
+use crate::model::history::Kind;
+use crate::model::logs::Word;
+use crate::model::recovering::EntryKind;
+use crate::model::{Run, logs, model_cells};
 
-// The kind that an entry's words say: 1 STORE, 2 ACQUIRE, 3 RELEASE.
-fn entry_kind(past: &[u64], entry: usize) -> u64 {
-    let kind = history::kind_of(past, entry);
-    if kind == history::LOG {
-        return 1;
+// The kind that an entry's words say.
+fn entry_kind(kind: Kind) -> EntryKind {
+    match kind {
+        Kind::Log => EntryKind::Store,
+        Kind::Acquire => EntryKind::Acquire,
+        _ => EntryKind::Release,
     }
-    if kind == history::ACQUIRE {
-        return 2;
-    }
-    3
 }
 
 // The value that an entry's words say: what was seen in the cell when it was logged, or the lock's count then.
-fn entry_value(start: &[u64], past: &[u64], entry: usize) -> u64 {
-    let place = history::place_of(past, entry);
-    if history::kind_of(past, entry) == history::LOG {
-        return model_cells::seen(start, past, place, entry);
+fn entry_value(before: Run, kind: Kind, place: u64) -> u64 {
+    match kind {
+        Kind::Log => model_cells::seen(before, place),
+        _ => model_cells::lock_count(before.past, place) as u64,
     }
-    model_cells::lock_count(past, place, entry) as u64
 }
 
-// One of the words kind, place, value, rank that a slot keeps, which may be words of different entries; an untouched slot holds zeros.
-fn slot_word(start: &[u64], past: &[u64], thread: u64, slot: usize, field: usize) -> u64 {
-    let entry = logs::kept_in_slot(past, thread, slot, field, history::next_step(past));
-    if entry == 0 {
+// A word that a slot keeps, and the others may be words of other entries; an untouched slot holds zeros.
+fn slot_word(run: Run, thread: u64, slot: u64, word: Word) -> u64 {
+    let Some(entry) = logs::kept_in_slot(run.past, thread, slot, word) else {
         return 0;
+    };
+    let past = run.past;
+    let Some(step) = past.get(entry) else {
+        return 0;
+    };
+    match word {
+        Word::Kind => entry_kind(step.kind) as u64,
+        Word::Place => step.place,
+        Word::Value => entry_value(run.before(entry), step.kind, step.place),
+        Word::Rank => logs::rank(run.past, thread, entry) as u64,
     }
-    if field == 0 {
-        return entry_kind(past, entry);
-    }
-    if field == 1 {
-        return history::place_of(past, entry);
-    }
-    if field == 2 {
-        return entry_value(start, past, entry);
-    }
-    logs::rank(past, thread, entry) as u64
+}
+
+// The rank of a thread's head, which is that of its next entry where no live one is there.
+fn head_rank(run: Run, thread: u64) -> u64 {
+    let past = run.past;
+    let head = logs::head(past, thread).unwrap_or(past.len());
+    logs::rank(past, thread, head) as u64
 }
 
 // One of an image's 1,156 words.
-fn word(start: &[u64], past: &[u64], index: usize) -> u64 {
-    let step = history::next_step(past);
+fn image_word(run: Run, index: u64) -> u64 {
     if index < 128 {
-        return model_cells::kept(start, past, index as u64, step);
+        return model_cells::kept(run, index);
     }
     if index < 132 {
-        let thread = (index - 128) as u64;
-        return logs::rank(past, thread, logs::head(past, thread, step)) as u64;
+        return head_rank(run, index - 128);
     }
     let at = index - 132;
-    slot_word(start, past, (at / 256) as u64, at % 256 / 4, at % 4)
+    let word = match at % 4 {
+        0 => Word::Kind,
+        1 => Word::Place,
+        2 => Word::Value,
+        _ => Word::Rank,
+    };
+    slot_word(run, at / 256, at % 256 / 4, word)
 }
 
-// Writes the image of a cut after the history.
-pub(crate) fn write(start: &[u64], past: &[u64], image: &mut [u64]) {
-    for index in 0..image.len() {
-        image[index] = word(start, past, index);
+// The image of a cut after the history.
+pub(crate) fn image(run: Run) -> [u64; 1156] {
+    let mut image = [0u64; 1156];
+    for (index, into) in image.iter_mut().enumerate() {
+        *into = image_word(run, index as u64);
     }
+    image
 }

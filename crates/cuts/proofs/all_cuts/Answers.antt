@@ -1,23 +1,21 @@
 -- `cuts::all_cuts` meets its contract. The loop's invariant: in any buffer in which the cut at the start was written first, what is written
 -- so far, and what is printed for the lines that are left, are all cuts.
-use Prim.Native.Nat.{ℕ, ◌+◌, ◌-◌, ◌≤◌, ◌<◌}
-use mathlib.Core.Path.{◌≡◌, sym, ap, ◌∙◌, subst⁻¹}
+use Rattle.std.specs.Prelude.{Some}
+use Prim.Native.Nat.{◌≤◌, ◌<◌}
+use mathlib.Core.Path.{◌≡◌, refl, ap, ◌∙◌}
+use mathlib.Core.Bool.{true, false}
 use native.Mathlib.Omega.{arith}
 use borrow.Author.Rules.{rules}
 use lib.ListN.{length}
-use Rattle.answer.specs.declared.Answer.{Answer}
-use Rattle.machine.specs.Runs.{Reached}
-use Rattle.machine.specs.declared.Machine.{Machine}
 use Rattle.machine.specs.declared.Stepped.{Stepped}
-use Rattle.script.specs.Script.{script_of}
-use Rattle.script.proofs.ScriptLaws.{none-taken, taken-reached, taken_more, taken-all, place-fits}
 use Rattle.listing.specs.Transcript.{most_input, start_machine}
-use Rattle.listing.proofs.Printing.{Printing, print-refused, print-long, started-reached, printing_start}
-use Rattle.listing.proofs.Printing.{printing-unreadable, line-within, printing-step}
+use Rattle.listing.proofs.Printing.{Printing, print-refused, print-long, printing_start}
+use Rattle.listing.proofs.Printing.{printing-unreadable, printing-step}
 use Rattle.cuts.specs.Cuts.{cut_text, cuts_from, cuts_of, cuts_in}
 use Rattle.cuts.proofs.CutsLaws.{by-line, cuts_text, cuts_fit, first-cut, printing_end}
+use Rattle.listing.proofs.InputLaws.{some_left, nothing_left, after-shorter}
 use Rattle.cuts.proofs.all_cuts.Goals as goal
-use Rattle.cuts.proofs.all_cuts.Goals.{After-line_length-from, After-start-started, At-loop-from, At-loop-taken}
+use Rattle.cuts.proofs.all_cuts.Goals.{After-is_empty, After-start-started, At-loop-rest}
 
 -- the machine of the start call
 started : (c : After-start-started) → c.start-started.result.machine ≡ start_machine
@@ -25,48 +23,27 @@ unfolding start_machine
 started c = ap (λ (stepped : Stepped). stepped.machine) c.start-started.ensures
 
 -- what is written so far, in the buffer that was lent
-so_far : (c : At-loop-from)
+so_far : (c : At-loop-rest)
     → let args = c.args in
-    let at = c.loop-from in
-    Printing cuts_from (cuts_text args.input.now) args.input.now args.output.now at.output at.machine at.number
-    at.from at.place
+    let at = c.loop-rest in
+    Printing cuts_from (cuts_text args.input.now) args.input.now args.output.now at.page.buffer.now at.machine at.number
+    at.rest.now at.page.place
 unfolding start_machine
 so_far c =
-    let wrote = c.write_cut-place.ensures in
+    let wrote = c.write_cut.ensures in
+    let new = c.new-page.ensures in
     let room = c.if-output-lt-TRANSCRIPT_ROOM.false in
     let old = c.args.output.now in
     let is = ap (λ (stepped : Stepped). stepped.machine) c.start-started.ensures in
-    let so_far = c.loop-from.invariant old room (first-cut old room is (wrote.value, wrote.output_after)) in
-    so_far
+    c.loop-rest.invariant.printing old room
+    (first-cut old room is (rw (new.held, new.place) at wrote.place_after, rw (new.held, new.place) at wrote.buffer_after))
 
--- steps lead to the machine after so many steps
-taking-reached : (c : At-loop-taken) → Reached c.loop-taken.machine
-unfolding start_machine
-taking-reached c =
-    let wrote = c.write_cut-place.ensures in
-    let room = c.if-output-lt-TRANSCRIPT_ROOM.false in
-    let old = c.args.output.now in
-    let is = ap (λ (stepped : Stepped). stepped.machine) c.start-started.ensures in
-    let so_far = c.loop-from.invariant old room (first-cut old room is (wrote.value, wrote.output_after)) in
-    subst⁻¹ Reached c.loop-taken.invariant.1
-    (taken-reached c.loop-from.machine c.read_fields-read.result c.in-Step.value c.loop-taken.taken so_far.reached)
+-- something is left of the input in a turn of the loop, and nothing after it
+more : (c : After-is_empty) → c.is_empty.result ≡ false → 0 < length c.loop-rest.rest.now
+more c not_empty = some_left c.loop-rest.rest.now c.is_empty.ensures not_empty
 
--- the line ends within the input
-within : (c : After-line_length-from)
-    → let args = c.args in
-    c.loop-from.from + c.line_length-from.result ≤ length args.input.now
-unfolding start_machine
-within c =
-    let wrote = c.write_cut-place.ensures in
-    let room = c.if-output-lt-TRANSCRIPT_ROOM.false in
-    let old = c.args.output.now in
-    let is = ap (λ (stepped : Stepped). stepped.machine) c.start-started.ensures in
-    let so_far = c.loop-from.invariant old room (first-cut old room is (wrote.value, wrote.output_after)) in
-    line-within so_far c.loop-from-test.true c.first_line.ensures c.in-Step.is c.line_length-from.ensures
-
--- an answer beside a machine
-abbrev answered : Answer → Machine → Stepped
-answered answer machine = record { answer = answer; machine = machine }
+none : (c : After-is_empty) → c.is_empty.result ≡ true → length c.loop-rest.rest.now ≤ 0
+none c empty = nothing_left c.loop-rest.rest.now c.is_empty.ensures empty
 
 pub returns-then-output-lt-TRANSCRIPT_ROOM : goal.returns-then-output-lt-TRANSCRIPT_ROOM
 unfolding cuts_in cuts_of
@@ -78,69 +55,39 @@ unfolding cuts_in cuts_of
 returns-then-input-gt-MOST_INPUT c = let wrote = c.write_result in
     let args = c.args in
     print-long args.input.now (cuts_text args.input.now) args.output.now c.if-output-lt-TRANSCRIPT_ROOM.false
-    (omega (arith, c.if-input-gt-MOST_INPUT.true)) (wrote.ensures.value, wrote.ensures.buffer_after)
+    (omega (arith, c.if-input-gt-MOST_INPUT.true)) (search rules, search rules)
 
-pub write_cut-place-requires : goal.write_cut-place-requires
-write_cut-place-requires c = started-reached (started (goal.at.write_cut-place-requires c).After-start-started)
-
-pub loop-from-init : goal.loop-from-init
-loop-from-init c = let args = c.args in
+pub loop-rest-init : goal.loop-rest-init
+loop-rest-init c = let args = c.args in
     let short : length args.input.now ≤ most_input = omega (arith, c.if-input-gt-MOST_INPUT.false) in
-    λ old room wrote. printing_start (cut_text 0 start_machine) short (cuts_fit args.input.now short) room wrote (started (goal.at.loop-from-init c).After-start-started)
+    record {
+      same = refl;
+      printing = λ old room wrote. printing_start (cut_text 0 start_machine) short (cuts_fit args.input.now short) room wrote (started (goal.at.loop-rest-init c).After-start-started);
+    }
 
 pub returns-in_default : goal.returns-in_default
 unfolding cuts_in cuts_of
 returns-in_default c = let wrote = c.write_result-in_default in
-    printing-unreadable (so_far (goal.at.returns-in_default c).At-loop-from) c.loop-from-test.true c.first_line.ensures by-line c.in_default.not-Step
-    (wrote.ensures.value, wrote.ensures.buffer_after)
-
-pub loop-taken-init : goal.loop-taken-init
-loop-taken-init c = let at = c.loop-from in
-    (omega arith, sym (ap (λ (stepped : Stepped). stepped.machine) (none-taken at.machine c.read_fields-read.result c.in-Step.value)))
-
-pub overflow_add-read : goal.overflow_add-read
-overflow_add-read c = let word : c.read_fields-read.result.first < 18446744073709551616 = search rules in
-    let fits =
-    place-fits c.in-Step.kind c.in-Step.thread c.in-Step.at c.in-Step.value c.loop-taken.taken
-    c.read_fields-read.ensures word c.loop-taken-test.true in
-    omega (arith, fits)
-
-pub step-stepped-requires : goal.step-stepped-requires
-step-stepped-requires c = taking-reached (goal.at.step-stepped-requires c).At-loop-taken
-
-pub loop-taken-preserved : goal.loop-taken-preserved
-loop-taken-preserved c = let at = c.loop-from in
-    let taking = c.loop-taken in
-    let more =
-    taken_more at.machine c.read_fields-read.result c.in-Step.value taking.taken taking.invariant.1
-    c.step-stepped.ensures in
-    (omega (arith, c.loop-taken-test.true), ap (λ (stepped : Stepped). stepped.machine) more)
-
-pub write_cut-place-requires-in-loop-from : goal.write_cut-place-requires-in-loop-from
-write_cut-place-requires-in-loop-from c = taking-reached (goal.at.write_cut-place-requires-in-loop-from c).At-loop-taken
+    printing-unreadable (so_far (goal.at.returns-in_default c).At-loop-rest) (more (goal.at.returns-in_default c).After-is_empty c.loop-rest-test.true) c.first_line.ensures by-line (λ kind thread place value says. search rules)
+    (search rules, search rules)
 
 pub overflow_add-number : goal.overflow_add-number
-overflow_add-number c = let at = so_far (goal.at.overflow_add-number c).At-loop-from in
-    omega (arith, at.short, at.within, at.counted)
+overflow_add-number c = let at = so_far (goal.at.overflow_add-number c).At-loop-rest in
+    omega (arith, at.short, at.counted)
 
-pub overflow_add-from : goal.overflow_add-from
-overflow_add-from c = let at = so_far (goal.at.overflow_add-from c).At-loop-from in
-    omega (arith, within (goal.at.overflow_add-from c).After-line_length-from, at.short)
-
-pub loop-from-preserved : goal.loop-from-preserved
-loop-from-preserved c = let wrote = c.write_cut-place-in-loop-from in
-    let machine = c.loop-from.machine in
-    let all =
-    taken-all machine c.read_fields-read.result c.in-Step.value c.in-Step.kind c.in-Step.thread c.in-Step.at c.read_fields-read.ensures
-    c.loop-taken.taken c.loop-taken.invariant.0 c.loop-taken-test.false in
-    let did =
-    ap (answered (script_of machine c.in-Step.kind c.in-Step.thread c.in-Step.at c.in-Step.value).answer)
-    (c.loop-taken.invariant.1 ∙ ap (λ (stepped : Stepped). stepped.machine) all) in
-    λ old room first.
-    let at = c.loop-from.invariant old room first in
-    printing-step at c.loop-from-test.true c.first_line.ensures c.in-Step.is did
-    by-line c.line_length-from.ensures (wrote.ensures.value, wrote.ensures.output_after)
+pub loop-rest-preserved : goal.loop-rest-preserved
+loop-rest-preserved c = let wrote = c.write_cut-in-loop-rest in
+    record {
+      same = wrote.ensures.same_reference ∙ c.loop-rest.invariant.same;
+      printing = λ old room first.
+          printing-step (c.loop-rest.invariant.printing old room first) (more (goal.at.loop-rest-preserved c).After-is_empty c.loop-rest-test.true) c.first_line.ensures (c.in-Some-Step.is ∙ ap Some c.in-Some-Step.field-0-is) c.take.ensures
+          by-line c.after_line-rest.ensures (wrote.ensures.place_after, wrote.ensures.buffer_after);
+    }
 
 pub returns : goal.returns
 unfolding cuts_in cuts_of
-returns c = printing_end (so_far (goal.at.returns c).At-loop-from) c.loop-from-test.false
+returns c = printing_end (so_far (goal.at.returns c).At-loop-rest) (none (goal.at.returns c).After-is_empty c.loop-rest-test.false) (search rules)
+
+pub loop-rest-smaller : goal.loop-rest-smaller
+loop-rest-smaller c =
+    rw c.after_line-rest.ensures (after-shorter c.loop-rest.rest.now (more (goal.at.loop-rest-smaller c).After-is_empty c.loop-rest-test.true))

@@ -1,5 +1,5 @@
--- `cuts::not_zero` meets its contract. The loop's invariant: what is counted and what is left to count are all.
-use Prim.Native.Nat.{ℕ, suc, ◌+◌, ◌-◌}
+-- `cuts::not_zero` meets its contract.
+use Prim.Native.Nat.{ℕ, suc, ◌+◌}
 use mathlib.Core.Path.{◌≡◌, refl, ap, sym, ◌∙◌}
 use mathlib.Core.Bool.{Bool, true, false, cond, not}
 use mathlib.Core.List.{List, [], ◌∷◌}
@@ -11,7 +11,7 @@ use Rattle.choices.specs.Counting.{count_if}
 use Rattle.choices.proofs.ChoiceLaws.{counts-more, counts_same, counts_end}
 use Rattle.cuts.specs.Cuts.{not_zero}
 use Rattle.cuts.proofs.not_zero.Goals as goal
-use Rattle.cuts.proofs.not_zero.Goals.{else-cells-cell-ne0, then-cells-cell-ne0}
+use Rattle.cuts.proofs.not_zero.Goals.{else-content-ne0, then-content-ne0}
 
 -- the cells that are not 0, as a count
 not-zero-counts : (cells : List ℕ) → not_zero cells ≡ count_if (λ content. not (eqb content 0)) cells
@@ -23,9 +23,9 @@ not-zero-counts (content ∷ cells) = rw (not-zero-counts cells) (either (eqb co
     either true rest = omega arith
     either false rest = omega arith
 
-pub loop-cell-preserved : goal.loop-cell-preserved
-loop-cell-preserved c = let l = c.loop-cell in
-    elim c.if-cells-cell-ne0.branch [ then-cells-cell-ne0 w ↦ rw w.count-is (counts-more l.invariant 0 (search rules) (ap not (ne_eqb _ _ w.if-cells-cell-ne0.true))) | else-cells-cell-ne0 w ↦ rw w.count-is (counts_same l.invariant 0 (search rules) (ap not (eq-eqb _ _ w.if-cells-cell-ne0.false))) ]
+pub loop-content-preserved : goal.loop-content-preserved
+loop-content-preserved c = let l = c.loop-content in
+    elim c.if-content-ne0.branch [ then-content-ne0 w ↦ rw w.count-is (counts-more l.invariant 0 (search rules) (ap not (ne_eqb _ _ w.if-content-ne0.true))) | else-content-ne0 w ↦ rw w.count-is (counts_same l.invariant 0 (search rules) (ap not (eq-eqb _ _ w.if-content-ne0.false))) ]
 
 pub returns : goal.returns
-returns c = counts_end c.loop-cell.invariant (search rules) ∙ sym (not-zero-counts c.args.cells.now)
+returns c = counts_end c.loop-content.invariant (search rules) ∙ sym (not-zero-counts c.args.cells.now)

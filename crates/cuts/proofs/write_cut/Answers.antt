@@ -5,6 +5,9 @@ use Rattle.cuts.proofs.write_cut.Goals as goal
 pub returns : goal.returns
 returns c =
     let args = c.args in
-    let whole = cut-found args.machine args.number args.place args.output.now c.requires
-    c.cut.ensures c.cut_evicted.ensures c.recover.ensures c.recover-2.ensures
-    c.alike_choices-choices.ensures c.not_zero-differ.ensures (c.write_cut_line.ensures.value, c.write_cut_line.ensures.buffer_after) in record { value = whole.0; output_after = whole.1 }
+    let page = args.page.now in
+    let wrote = c.write_cut_line.ensures in
+    let whole = cut-found args.machine args.number page.place page.buffer.now c.cut.ensures.reached
+    c.cut.ensures.image c.cut_evicted.ensures c.recover.ensures c.recover-2.ensures
+    c.alike_choices-choices.ensures c.not_zero-differ.ensures (wrote.place_after, wrote.buffer_after) in
+    record { same_reference = wrote.same_reference; place_after = whole.0; buffer_after = whole.1 }

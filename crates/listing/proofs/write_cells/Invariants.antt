@@ -1,11 +1,10 @@
--- `listing::write_cells` meets its contract. The loop's invariant: the lines of the cells so far are in the buffer.
-use Prim.Native.Nat.{◌≤◌, ◌-◌}
-use lib.ListN.{length}
+-- The invariant of `listing::write_cells`'s loop: the lines of the cells so far are in the buffer.
+use mathlib.Core.Path.{◌≡◌}
 use Rattle.print.proofs.PrintLaws.{CellsWrote}
 use Rattle.listing.proofs.write_cells.Given as goal
 
-abbrev pub invariant-loop-i : goal.invariant-loop-i
-invariant-loop-i l = (l.i ≤ length l.cells) × CellsWrote l.initial.output l.place l.cells l.output l.end l.i
-
-abbrev pub decreases-loop-i : goal.decreases-loop-i
-decreases-loop-i l = length l.cells - l.i
+abbrev pub invariant-loop-cell : goal.invariant-loop-cell
+invariant-loop-cell l = record {
+  same : l.page.buffer.ghost_name ≡ l.initial.page.buffer.ghost_name;
+  wrote : CellsWrote l.initial.page.buffer.now l.initial.page.place l.cells l.page.buffer.now l.page.place l.cell;
+}

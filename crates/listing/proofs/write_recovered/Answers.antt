@@ -1,9 +1,8 @@
 -- `listing::write_recovered` meets its contract.
 use Prim.Native.Nat.{ℕ, ◌+◌, ◌≤◌}
 use mathlib.Core.List.{List}
-use mathlib.Core.Path.{◌≡◌, ◌∙◌, ap, subst⁻¹}
+use mathlib.Core.Path.{◌≡◌, subst⁻¹}
 use lib.ListN.{length}
-use Rattle.buffer.specs.Buffers.{written}
 use Rattle.print.specs.Printed.{cells_text}
 use Rattle.listing.specs.Transcript.{recovered_cells}
 use Rattle.listing.proofs.RecoveredLaws.{recovered_are}
@@ -15,18 +14,13 @@ cells_are : (c : After-recover) →
     c.recover.new.cells ≡ recovered_cells c.args.machine
 cells_are c =
     recovered_are c.args.machine
-    c.cut.ensures c.recover.ensures
+    c.cut.ensures.image c.recover.ensures
 
 pub write_cells-requires : goal.write_cells-requires
-write_cells-requires c = let args = c.args in
-    subst⁻¹ (λ (cells : List ℕ). args.place + length (cells_text 0 cells) ≤ length args.output.now)
+write_cells-requires c = let page = c.args.page.now in
+    subst⁻¹ (λ (cells : List ℕ). page.place + length (cells_text 0 cells) ≤ length page.buffer.now)
     (cells_are (goal.at.write_cells-requires c).After-recover)
-    c.requires.machine_in_bounds
+    c.requires
 
 pub returns : goal.returns
-returns c = let args = c.args in
-    let are = cells_are (goal.at.returns c).After-recover in record {
-      value = c.write_cells.ensures.value ∙ ap (λ (cells : List ℕ). args.place + length (cells_text 0 cells)) are;
-      output_after = c.write_cells.ensures.output_after ∙
-          ap (λ (cells : List ℕ). written args.output.now args.place (cells_text 0 cells)) are;
-    }
+returns c = rw (cells_are (goal.at.returns c).After-recover) at c.write_cells.ensures

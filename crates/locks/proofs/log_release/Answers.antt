@@ -1,37 +1,35 @@
 -- `locks::log_release` meets its contract.
-use Rattle.answer.specs.declared.Answer.TheVariants.{Accepted}
+use Rattle.std.specs.Prelude.{Ok}
+use Rattle.std.proofs.lemmas.Result.{err_from_is_err_and}
 use Rattle.event.specs.declared.Event.TheVariants.{Release}
 use Rattle.accessing.proofs.EntryLaws.{entry-refused, entry-made}
 use Rattle.locks.specs.LockSteps.{log_release_tests_on, log_release_on}
-use Rattle.locks.proofs.LockLaws.{log_release_own_refuses}
 use Rattle.locks.proofs.log_release.Goals as goal
 
-pub returns-then-number-ne0 : goal.returns-then-number-ne0
+pub returns-in_err-enter : goal.returns-in_err-enter
 unfolding log_release_on
-returns-then-number-ne0 c = let a = c.args in
-    entry-refused
-    a.log
+returns-in_err-enter c = let a = c.args in
+    let p = err_from_is_err_and c.from_residual.result c.from_residual.ensures.1 in
+    rw (p.1, p.2)
+    (entry-refused
+    a.log.now
     (Release a.place a.lock.count)
-    (log_release_tests_on a.log a.lock a.thread)
-    (log_release_own_refuses a.log a.lock a.thread)
+    (log_release_tests_on a.log.now a.lock a.thread)
     c.log_release_answer-asked.ensures
-    c.enter-entered.ensures
-    c.number.ensures
+    c.enter.ensures
     (λ answer log. record { answer = answer; log = log })
     _
-    c.if-number-ne0.true
+    c.in_err-enter.was)
 
 pub returns : goal.returns
 unfolding log_release_on
 returns c = let a = c.args in
     entry-made
-    a.log
+    a.log.now
     (Release a.place a.lock.count)
-    (log_release_tests_on a.log a.lock a.thread)
-    (log_release_own_refuses a.log a.lock a.thread)
+    (log_release_tests_on a.log.now a.lock a.thread)
     c.log_release_answer-asked.ensures
-    c.enter-entered.ensures
-    c.number.ensures
+    c.enter.ensures
     (λ answer log. record { answer = answer; log = log })
-    (λ answer log. record { answer = Accepted a.lock.count.0; log = log })
-    c.if-number-ne0.false
+    (λ answer log. record { answer = Ok a.lock.count.0; log = log })
+    c.in_ok-enter.was

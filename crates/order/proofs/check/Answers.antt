@@ -2,37 +2,39 @@
 use Prim.Native.Nat.{ℕ}
 use mathlib.Core.Path.{◌≡◌, sym, ap, ◌∙◌}
 use mathlib.Core.List.{List}
-use Rattle.answer.specs.Answer.{number_of}
 use Rattle.image.specs.Stored.{stored_logs}
-use Rattle.image.specs.Reading.{tested_of}
-use Rattle.image.specs.declared.Tested.{Tested}
-use Rattle.image.proofs.Outcomes.{image-accepted}
-use Rattle.order.specs.Check.{pairs_of, bad_place, refused, marked_by}
-use Rattle.order.proofs.Outcomes.{bad-image, no_pairs, is-marked}
+use Rattle.image.proofs.Outcomes.{first-refused, first-passed}
+use Rattle.order.specs.Check.{pairs_of, bad_place, marked_by}
+use Rattle.order.proofs.Outcomes.{found, bad-image, no_pairs, is-marked}
 use Rattle.order.proofs.check.Goals as goal
-use Rattle.order.proofs.check.Goals.{After-number}
+use Rattle.order.proofs.check.Goals.{After-bad_place}
 
--- the number that was asked for is the one of the definition's answer
-number_is : (c : After-number) → c.number.result ≡ number_of (tested_of c.args.image.now).answer
-number_is c = c.number.ensures ∙ ap (λ (tested : Tested). number_of tested.answer) c.test-tested.ensures
+-- the place that was asked for is the one of the definition
+found_is : (c : After-bad_place) → let tested = c.in-Ok.tested in
+    bad_place (stored_logs tested.headed.words.now) tested.present 0 (pairs_of c.args.pairs.now) ≡ found c.args.image.now c.args.pairs.now
+found_is c =
+    let tested = c.in-Ok.tested in
+    ap (λ (present : List ℕ). bad_place (stored_logs tested.headed.words.now) present 0 (pairs_of c.args.pairs.now)) tested.counted
+    ∙ ap (λ (image : List ℕ). found image c.args.pairs.now) c.in-Ok.ensures.0
 
--- the image is accepted
-accepts : (c : After-number) → c.number.result ≡ 0 → number_of (tested_of c.args.image.now).answer ≡ 0
-accepts c zero = sym (number_is c) ∙ zero
-
-pub returns-then-number-ne0 : goal.returns-then-number-ne0
-returns-then-number-ne0 c = ap (λ (tested : Tested). refused tested.answer) c.test-tested.ensures
-    ∙ bad-image c.args.image.now c.args.pairs.now (λ zero. c.if-number-ne0.true (number_is (goal.at.returns-then-number-ne0 c).After-number ∙ zero))
+pub returns-in-Err : goal.returns-in-Err
+returns-in-Err c =
+    c.refused.ensures ∙ bad-image c.args.image.now c.args.pairs.now (first-refused c.args.image.now c.in-Err.ensures)
 
 pub returns-then-are_not_pairs : goal.returns-then-are_not_pairs
-returns-then-are_not_pairs c = no_pairs c.args.image.now c.args.pairs.now (accepts (goal.at.returns-then-are_not_pairs c).After-number c.if-number-ne0.false) (sym c.are_not_pairs.ensures ∙ c.if-are_not_pairs.true)
+returns-then-are_not_pairs c =
+    c.refused-then-are_not_pairs.ensures
+    ∙ no_pairs c.args.image.now c.args.pairs.now (first-passed c.args.image.now c.in-Ok.ensures.1)
+    (sym c.are_not_pairs.ensures ∙ c.if-are_not_pairs.true)
 
-pub take_pairs-requires : goal.take_pairs-requires
-take_pairs-requires c = (image-accepted c.args.image.now (accepts (goal.at.take_pairs-requires c).After-number c.if-number-ne0.false)).1.headed
+pub returns-in-Some : goal.returns-in-Some
+returns-in-Some c =
+    ap marked_by (c.in-Some.ensures ∙ found_is (goal.at.returns-in-Some c).After-bad_place)
+    ∙ is-marked c.args.image.now c.args.pairs.now (first-passed c.args.image.now c.in-Ok.ensures.1)
+    (sym c.are_not_pairs.ensures ∙ c.if-are_not_pairs.false)
 
-pub returns : goal.returns
-returns c = let read = image-accepted c.args.image.now (accepts (goal.at.returns c).After-number c.if-number-ne0.false) in
-    c.take_pairs.ensures
-    ∙ ap (λ (present : List ℕ). marked_by (bad_place (stored_logs c.args.image.now) present 0 (pairs_of c.args.pairs.now)))
-    (ap (λ (tested : Tested). tested.present) (c.test-tested.ensures ∙ read.0))
-    ∙ is-marked c.args.image.now c.args.pairs.now (accepts (goal.at.returns c).After-number c.if-number-ne0.false) (sym c.are_not_pairs.ensures ∙ c.if-are_not_pairs.false)
+pub returns-in-None : goal.returns-in-None
+returns-in-None c =
+    ap marked_by (c.in-None.ensures ∙ found_is (goal.at.returns-in-None c).After-bad_place)
+    ∙ is-marked c.args.image.now c.args.pairs.now (first-passed c.args.image.now c.in-Ok.ensures.1)
+    (sym c.are_not_pairs.ensures ∙ c.if-are_not_pairs.false)

@@ -1,14 +1,22 @@
--- `pair::waits` meets its contract. The loop's invariant: no thread before `thread` has such an ACQUIRE left.
-use mathlib.Core.Path.{sym, ◌∙◌}
+-- `pair::waits` meets its contract.
+use Prim.Native.Nat.{ℕ}
+use mathlib.Core.Path.{◌∙◌}
+use mathlib.Core.Bool.{Bool}
+use native.Mathlib.Omega.{arith}
 use borrow.Author.Rules.{rules}
-use Rattle.answer.proofs.Searches.{search_starts, search-on, search-finds}
+use borrow.Author.Tests.{tests}
+use Rattle.std.proofs.lemmas.Iterator.{YieldsList-from_range}
+use Rattle.std.proofs.lemmas.Iterator.Search.{any_from_yields_List}
+use Rattle.sizes.specs.Sizes.{thread_count}
+use Rattle.answer.proofs.Searches.{any-below}
+use Rattle.image.specs.Reading.{log_in}
+use Rattle.undoing.specs.Undo.{left_of, has_later_acquire}
 use Rattle.pair.proofs.waits.Goals as goal
 
-pub loop-thread-init : goal.loop-thread-init
-loop-thread-init c = search_starts
-
-pub returns-then-has_later_acquire : goal.returns-then-has_later_acquire
-returns-then-has_later_acquire c = search-finds c.loop-thread.invariant (search rules) (sym c.has_later_acquire.ensures ∙ c.if-has_later_acquire.true)
-
-pub loop-thread-preserved : goal.loop-thread-preserved
-loop-thread-preserved c = search-on c.loop-thread.invariant (search rules) (sym c.has_later_acquire.ensures ∙ c.if-has_later_acquire.false)
+pub returns : goal.returns
+returns c =
+    let a = c.args in
+    let later : ℕ → Bool = λ thread. has_later_acquire (log_in a.image.words.now thread) (left_of a.left thread) a.lock a.count in
+    any_from_yields_List later _ _ _ c.any.ensures.ran (YieldsList-from_range 0 thread_count thread_count (cc) (omega arith))
+    (λ x b q k. search (rules, tests))
+    ∙ any-below thread_count later

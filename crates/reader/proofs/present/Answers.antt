@@ -1,38 +1,25 @@
--- `reader::present` meets its contract. The loop's invariant: what was found, and what is found from here on, is all that is found.
+-- `reader::present` meets its contract.
 use Prim.Native.Nat.{◌-◌}
-use mathlib.Core.Path.{◌≡◌, sym, ◌∙◌, ap}
-use native.Mathlib.Omega.{arith}
+use mathlib.Core.Path.{refl, ◌∙◌}
+use lib.ListN.{take}
 use borrow.Author.Rules.{rules}
-use borrow.Author.Tests.{eq-eqb, ne_eqb}
-use Rattle.reader.specs.Stretch.{holds, present_from, present_of}
-use Rattle.reader.proofs.Presence.{present-stops-past-last, present-stops-at-missing, present-turn}
+use borrow.Author.Tests.{tests}
+use Rattle.std.specs.List.{range_with_len}
+use Rattle.std.proofs.lemmas.Iterator.{YieldsList-from_range, YieldsList-from_take}
+use Rattle.std.proofs.lemmas.Iterator.Consumers.{count_from_yields_List}
+use Rattle.std.proofs.lemmas.Iterator.Search.{YieldsList-from_take_while}
+use Rattle.std.proofs.lemmas.List.Folds.{length-prefix_len}
+use Rattle.reader.specs.Stretch.{holds, present_of}
+use Rattle.reader.proofs.Presence.{present-counts}
 use Rattle.reader.proofs.present.Goals as goal
 
-pub loop-found-init : goal.loop-found-init
-unfolding present_of
-loop-found-init c = search rules
-
-pub returns-then-number-gt-LAST_LSN : goal.returns-then-number-gt-LAST_LSN
-returns-then-number-gt-LAST_LSN c = let l = c.loop-found in
-    let s = c.args.stretch.now in
-    omega (arith, present-stops-past-last (holds s) l.number (64 - l.found) c.if-number-gt-LAST_LSN.true)
-
-pub returns-then-word-number : goal.returns-then-word-number
-unfolding holds
-returns-then-word-number c = let l = c.loop-found in
-    let s = c.args.stretch.now in
-    let missing = ne_eqb _ l.number (λ e. c.if-word-number.true (c.word.ensures ∙ e)) in
-    omega (arith, present-stops-at-missing (holds s) l.number (64 - l.found) missing)
-
-pub loop-found-preserved : goal.loop-found-preserved
-unfolding holds
-loop-found-preserved c = let l = c.loop-found in
-    let s = c.args.stretch.now in
-    let here = eq-eqb _ l.number (sym c.word.ensures ∙ c.if-word-number.false) in
-    (search rules, present-turn (holds s) l.number l.found 64 (search rules) (search rules) here ∙ l.invariant.1)
-
 pub returns : goal.returns
-unfolding present_from
-returns c = let l = c.loop-found in
-    let none : 64 - l.found ≡ 0 = omega arith in
-    omega (arith, ap (present_from (holds c.args.stretch.now) l.number) none)
+unfolding present_of holds
+returns c =
+    let found = holds c.args.stretch.now in
+    let head = c.args.head in
+    count_from_yields_List c.take_while.result c.count.result c.count.ensures.ran
+    (YieldsList-from_take_while _ found (YieldsList-from_take 64 (YieldsList-from_range head 1000001 (1000001 - head) (cc) refl) (cc))
+    c.take_while.ensures.closure c.take_while.ensures.done (λ x b q k. search (rules, tests)))
+    ∙ length-prefix_len found (take 64 (range_with_len head (1000001 - head)))
+    ∙ present-counts found head 64

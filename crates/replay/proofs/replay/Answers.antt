@@ -6,24 +6,16 @@ use lib.ListN.{length}
 use borrow.Author.Tests.{eq-eqb, ne_eqb}
 use Rattle.answer.specs.Refusals.{Outcome}
 use Rattle.machine.specs.Image.{cut_of}
-use Rattle.machine.specs.declared.Machine.{Machine}
+use Rattle.machine.specs.State.{Machine}
 use Rattle.recovery.specs.Recover.{recover_of}
-use Rattle.machine.specs.Runs.{Step, step_with, after, Reached}
+use Rattle.machine.specs.Runs.{Step, step_with, after}
 use Rattle.machine.specs.declared.Stepped.{Stepped}
-use Rattle.machine.proofs.Reaching.{start-reached, step-reached}
 use Rattle.replay.specs.Replay.{steps_of, replay_of, run_of}
 use Rattle.atomicity.specs.History.{machine_after}
 use Rattle.atomicity.proofs.Demand3Holds.{cut-writes, cut_recovers}
 use Rattle.replay.proofs.replay.Goals as goal
 
--- a run ends in the machine after its steps, which is reached
-run-reached : (stepped : Stepped) (steps : List Step) → Reached stepped.machine → Reached (run_of stepped steps).machine
-unfolding run_of
-run-reached stepped [] reached = reached
-run-reached stepped (step ∷ steps) reached =
-    let reached-next = step-reached stepped.machine step.kind step.thread step.place step.value reached in
-    run-reached (step_with stepped.machine step) steps reached-next
-
+-- a run ends in the machine after its steps
 run-after : (stepped : Stepped) (steps : List Step) → (run_of stepped steps).machine ≡ after stepped.machine steps
 unfolding run_of after
 run-after stepped [] = refl
@@ -57,9 +49,6 @@ pub returns-then-cells-ne-CELLS : goal.returns-then-cells-ne-CELLS
 unfolding replay_of
 returns-then-cells-ne-CELLS c = rw (eq-eqb _ 1156 c.if-image-ne-IMAGE_WORDS.false, ne_eqb _ 128 c.if-cells-ne-CELLS.true)
 
-pub cut-requires : goal.cut-requires
-cut-requires c = rw c.run-stepped.ensures (run-reached _ _ (start-reached _))
-
 pub returns : goal.returns
 unfolding replay_of
 returns c = let found = c.recover in
@@ -77,5 +66,5 @@ returns c = let found = c.recover in
     c.if-cells-ne-CELLS.false
     (record { answer = cut.result; buffer = cut.new.image })
     (record { answer = found.result; buffer = found.new.cells })
-    cut.ensures
+    cut.ensures.image
     found.ensures

@@ -1,133 +1,114 @@
 -- `step::step` meets its contract: an accepted input is of the kind whose method is called, with 0 in the fields that it does not use.
-use Prim.Native.Nat.{ℕ, ◌<◌}
+use Rattle.std.specs.Prelude.{Option, Some}
+use Prim.Native.Nat.{ℕ}
 use mathlib.Core.Path.{◌≡◌, refl, sym, ap, ◌∙◌}
-use native.Mathlib.Omega.{arith}
-use Rattle.answer.specs.Answer.{number_of}
-use Rattle.kinds.specs.Kinds.{LOAD, LOG, ACQUIRE, LOGREL, RELEASE, FLUSH, FLUSHLOG, FENCE, PRUNE, EVICTLOG, EVICTCELL, kind_of}
-use Rattle.kinds.specs.Kinds.{input_answer}
-use Rattle.kinds.proofs.Inputs.{unused-thread, unused-place, unused-value, last_kind}
+use Rattle.kinds.specs.Kinds.{kind_of}
+use Rattle.kinds.specs.declared.Kind.{Kind}
+use Rattle.machine.specs.Steps.{step_of_option, step_of}
+use Rattle.machine.specs.State.{Machine}
 use Rattle.machine.proofs.Inputs.{input-refused}
 use Rattle.step.proofs.step.Goals as goal
-use Rattle.step.proofs.step.Goals.{Joined-number-eq0, else-number-eq0, then-number-eq0}
 
--- a kind that is known is the step's, and its input was accepted
-of-kind : (c : Joined-number-eq0) (number : ℕ) → 0 < number → c.if-number-eq0.known ≡ number
-    → let a =
-    c.args in
-    (a.kind ≡ number) × (number_of (input_answer (kind_of a.kind) a.thread a.place a.value) ≡ 0)
-of-kind c number some is_number =
-    elim c.if-number-eq0.branch [
-      | then-number-eq0 w ↦ (
-        sym w.known-is ∙ is_number,
-        ap number_of (sym c.input_answer-answer.ensures) ∙ (sym c.number.ensures ∙ w.if-number-eq0.true),
-      )
-      | else-number-eq0 w ↦ absurd (omega (arith, w.known-is))
-    ]
+-- two numbers of one kind give one step
+same : (machine : Machine) (thread place value number other : ℕ) {kind : Kind} → kind_of number ≡ Some kind → kind_of other ≡ Some kind →
+    step_of machine other thread place value ≡ step_of machine number thread place value
+unfolding step_of
+same machine thread place value number other is_number is_other =
+    ap (λ (found : Option Kind). step_of_option machine found thread place value) (is_other ∙ sym is_number)
 
-pub returns-in-1 : goal.returns-in-1
+pub returns-in-Err : goal.returns-in-Err
+returns-in-Err c = let a = c.args in
+    sym (input-refused a.machine a.thread a.place a.value a.kind c.in-Err.ensures)
+
+pub returns-in-Ok-Load : goal.returns-in-Ok-Load
 unfolding kind_of
-returns-in-1 c = let a = c.args in
-    let is = of-kind (goal.at.returns-in-1 c).Joined-number-eq0 1 (omega arith) c.in-1.is in
-    c.load.ensures ∙ rw (unused-value a.thread a.place a.value a.kind 1 LOAD refl is.0 is.1 refl, is.0)
+returns-in-Ok-Load c = let a = c.args in
+    let known = rw c.in-Ok-Load.field-0-is at c.in-Ok-Load.ensures in
+    let value : a.value ≡ 0 = known.1.value_fits in
+    c.load.ensures ∙ rw value (same a.machine a.thread a.place 0 a.kind 1 known.0 refl)
 
-pub returns-in-2 : goal.returns-in-2
+pub returns-in-Ok-Log : goal.returns-in-Ok-Log
 unfolding kind_of
-returns-in-2 c = let a = c.args in
-    let is = of-kind (goal.at.returns-in-2 c).Joined-number-eq0 2 (omega arith) c.in-2.is in
-    c.log.ensures ∙ rw (unused-value a.thread a.place a.value a.kind 2 LOG refl is.0 is.1 refl, is.0)
+returns-in-Ok-Log c = let a = c.args in
+    let known = rw c.in-Ok-Log.field-0-is at c.in-Ok-Log.ensures in
+    let value : a.value ≡ 0 = known.1.value_fits in
+    c.log.ensures ∙ rw value (same a.machine a.thread a.place 0 a.kind 2 known.0 refl)
 
-pub returns-in-4 : goal.returns-in-4
+pub returns-in-Ok-Store : goal.returns-in-Ok-Store
 unfolding kind_of
-returns-in-4 c = let a = c.args in
-    let is = of-kind (goal.at.returns-in-4 c).Joined-number-eq0 4 (omega arith) c.in-4.is in
-    c.acquire.ensures ∙ rw (unused-value a.thread a.place a.value a.kind 4 ACQUIRE refl is.0 is.1 refl, is.0)
+returns-in-Ok-Store c = let a = c.args in
+    let known = rw c.in-Ok-Store.field-0-is at c.in-Ok-Store.ensures in
+    c.store.ensures ∙ same a.machine a.thread a.place a.value a.kind 3 known.0 refl
 
-pub returns-in-5 : goal.returns-in-5
+pub returns-in-Ok-Acquire : goal.returns-in-Ok-Acquire
 unfolding kind_of
-returns-in-5 c = let a = c.args in
-    let is = of-kind (goal.at.returns-in-5 c).Joined-number-eq0 5 (omega arith) c.in-5.is in
-    c.log_release.ensures ∙ rw (unused-value a.thread a.place a.value a.kind 5 LOGREL refl is.0 is.1 refl, is.0)
+returns-in-Ok-Acquire c = let a = c.args in
+    let known = rw c.in-Ok-Acquire.field-0-is at c.in-Ok-Acquire.ensures in
+    let value : a.value ≡ 0 = known.1.value_fits in
+    c.acquire.ensures ∙ rw value (same a.machine a.thread a.place 0 a.kind 4 known.0 refl)
 
-pub returns-in-6 : goal.returns-in-6
+pub returns-in-Ok-LogRel : goal.returns-in-Ok-LogRel
 unfolding kind_of
-returns-in-6 c = let a = c.args in
-    let is = of-kind (goal.at.returns-in-6 c).Joined-number-eq0 6 (omega arith) c.in-6.is in
-    c.release.ensures ∙ rw (unused-value a.thread a.place a.value a.kind 6 RELEASE refl is.0 is.1 refl, is.0)
+returns-in-Ok-LogRel c = let a = c.args in
+    let known = rw c.in-Ok-LogRel.field-0-is at c.in-Ok-LogRel.ensures in
+    let value : a.value ≡ 0 = known.1.value_fits in
+    c.log_release.ensures ∙ rw value (same a.machine a.thread a.place 0 a.kind 5 known.0 refl)
 
-pub returns-in-7 : goal.returns-in-7
+pub returns-in-Ok-Release : goal.returns-in-Ok-Release
 unfolding kind_of
-returns-in-7 c = let a = c.args in
-    let is = of-kind (goal.at.returns-in-7 c).Joined-number-eq0 7 (omega arith) c.in-7.is in
-    c.flush.ensures ∙ rw (unused-value a.thread a.place a.value a.kind 7 FLUSH refl is.0 is.1 refl, is.0)
+returns-in-Ok-Release c = let a = c.args in
+    let known = rw c.in-Ok-Release.field-0-is at c.in-Ok-Release.ensures in
+    let value : a.value ≡ 0 = known.1.value_fits in
+    c.release.ensures ∙ rw value (same a.machine a.thread a.place 0 a.kind 6 known.0 refl)
 
-pub returns-in-8 : goal.returns-in-8
+pub returns-in-Ok-Flush : goal.returns-in-Ok-Flush
 unfolding kind_of
-returns-in-8 c = let a = c.args in
-    let is = of-kind (goal.at.returns-in-8 c).Joined-number-eq0 8 (omega arith) c.in-8.is in
-    c.flush_log.ensures ∙
-    rw (
-      unused-place a.thread a.place a.value a.kind 8 FLUSHLOG refl is.0 is.1 refl,
-      unused-value a.thread a.place a.value a.kind 8 FLUSHLOG refl is.0 is.1 refl,
-      is.0,
-    )
+returns-in-Ok-Flush c = let a = c.args in
+    let known = rw c.in-Ok-Flush.field-0-is at c.in-Ok-Flush.ensures in
+    let value : a.value ≡ 0 = known.1.value_fits in
+    c.flush.ensures ∙ rw value (same a.machine a.thread a.place 0 a.kind 7 known.0 refl)
 
-pub returns-in-9 : goal.returns-in-9
+pub returns-in-Ok-FlushLog : goal.returns-in-Ok-FlushLog
 unfolding kind_of
-returns-in-9 c = let a = c.args in
-    let is = of-kind (goal.at.returns-in-9 c).Joined-number-eq0 9 (omega arith) c.in-9.is in
-    c.fence.ensures ∙
-    rw (
-      unused-place a.thread a.place a.value a.kind 9 FENCE refl is.0 is.1 refl,
-      unused-value a.thread a.place a.value a.kind 9 FENCE refl is.0 is.1 refl,
-      is.0,
-    )
+returns-in-Ok-FlushLog c = let a = c.args in
+    let known = rw c.in-Ok-FlushLog.field-0-is at c.in-Ok-FlushLog.ensures in
+    let place : a.place ≡ 0 = known.1.place_fits in
+    let value : a.value ≡ 0 = known.1.value_fits in
+    c.flush_log.ensures ∙ rw (place, value) (same a.machine a.thread 0 0 a.kind 8 known.0 refl)
 
-pub returns-in-10 : goal.returns-in-10
+pub returns-in-Ok-Fence : goal.returns-in-Ok-Fence
 unfolding kind_of
-returns-in-10 c = let a = c.args in
-    let is = of-kind (goal.at.returns-in-10 c).Joined-number-eq0 10 (omega arith) c.in-10.is in
-    c.prune.ensures ∙
-    rw (
-      unused-place a.thread a.place a.value a.kind 10 PRUNE refl is.0 is.1 refl,
-      unused-value a.thread a.place a.value a.kind 10 PRUNE refl is.0 is.1 refl,
-      is.0,
-    )
+returns-in-Ok-Fence c = let a = c.args in
+    let known = rw c.in-Ok-Fence.field-0-is at c.in-Ok-Fence.ensures in
+    let place : a.place ≡ 0 = known.1.place_fits in
+    let value : a.value ≡ 0 = known.1.value_fits in
+    c.fence.ensures ∙ rw (place, value) (same a.machine a.thread 0 0 a.kind 9 known.0 refl)
 
-pub returns-in-12 : goal.returns-in-12
+pub returns-in-Ok-Prune : goal.returns-in-Ok-Prune
 unfolding kind_of
-returns-in-12 c = let a = c.args in
-    let is = of-kind (goal.at.returns-in-12 c).Joined-number-eq0 12 (omega arith) c.in-12.is in
-    c.evict_log.ensures ∙ rw (unused-value a.thread a.place a.value a.kind 12 EVICTLOG refl is.0 is.1 refl, is.0)
+returns-in-Ok-Prune c = let a = c.args in
+    let known = rw c.in-Ok-Prune.field-0-is at c.in-Ok-Prune.ensures in
+    let place : a.place ≡ 0 = known.1.place_fits in
+    let value : a.value ≡ 0 = known.1.value_fits in
+    c.prune.ensures ∙ rw (place, value) (same a.machine a.thread 0 0 a.kind 10 known.0 refl)
 
-pub returns-in-13 : goal.returns-in-13
+pub returns-in-Ok-EvictLog : goal.returns-in-Ok-EvictLog
 unfolding kind_of
-returns-in-13 c = let a = c.args in
-    let is = of-kind (goal.at.returns-in-13 c).Joined-number-eq0 13 (omega arith) c.in-13.is in
-    c.evict_cell.ensures ∙
-    rw (
-      unused-thread a.thread a.place a.value a.kind 13 EVICTCELL refl is.0 is.1 refl,
-      unused-value a.thread a.place a.value a.kind 13 EVICTCELL refl is.0 is.1 refl,
-      is.0,
-    )
+returns-in-Ok-EvictLog c = let a = c.args in
+    let known = rw c.in-Ok-EvictLog.field-0-is at c.in-Ok-EvictLog.ensures in
+    let value : a.value ≡ 0 = known.1.value_fits in
+    c.evict_log.ensures ∙ rw value (same a.machine a.thread a.place 0 a.kind 12 known.0 refl)
 
--- no kind is known: the input was refused
-pub returns-in_default : goal.returns-in_default
-returns-in_default c =
-    let a = c.args in
-    let asked = c.input_answer-answer.ensures in
-    elim c.if-number-eq0.branch [
-      | then-number-eq0 w ↦
-          let is_known = ap number_of (sym asked) ∙ (sym c.number.ensures ∙ w.if-number-eq0.true) in
-          let not : (number : ℕ) → (c.if-number-eq0.known ≡ number → ⊥) → a.kind ≡ number → ⊥ =
-          λ number differs is. differs (w.known-is ∙ is) in
-          let last =
-          last_kind a.thread a.place a.value a.kind is_known
-          (not 1 (omega arith)) (not 2 (omega arith)) (not 3 (omega arith)) (not 4 (omega arith))
-          (not 5 (omega arith)) (not 6 (omega arith)) (not 7 (omega arith)) (not 8 (omega arith))
-          (not 9 (omega arith)) (not 10 (omega arith)) (not 12 (omega arith)) (not 13 (omega arith)) in
-          absurd (not 14 (omega arith) last)
-      | else-number-eq0 w ↦
-          rw asked
-          (sym (input-refused a.machine a.thread a.place a.value a.kind
-          (λ zero. w.if-number-eq0.false (c.number.ensures ∙ (ap number_of asked ∙ zero)))))
-    ]
+pub returns-in-Ok-EvictCell : goal.returns-in-Ok-EvictCell
+unfolding kind_of
+returns-in-Ok-EvictCell c = let a = c.args in
+    let known = rw c.in-Ok-EvictCell.field-0-is at c.in-Ok-EvictCell.ensures in
+    let thread : a.thread ≡ 0 = known.1.thread_fits in
+    let value : a.value ≡ 0 = known.1.value_fits in
+    c.evict_cell.ensures ∙ rw (thread, value) (same a.machine 0 a.place 0 a.kind 13 known.0 refl)
+
+pub returns-in-Ok-EvictWords : goal.returns-in-Ok-EvictWords
+unfolding kind_of
+returns-in-Ok-EvictWords c = let a = c.args in
+    let known = rw c.in-Ok-EvictWords.field-0-is at c.in-Ok-EvictWords.ensures in
+    c.evict_words.ensures ∙ same a.machine a.thread a.place a.value a.kind 14 known.0 refl

@@ -1,18 +1,14 @@
 -- `undo::enter` meets its contract: the log appends what the event is written as, where the tests before it refuse nothing.
-use mathlib.Core.Path.{sym, ◌∙◌}
-use borrow.Author.Tests.{eq-eqb, ne_eqb}
+use mathlib.Core.Path.{◌∙◌}
+use Rattle.std.proofs.lemmas.Result.{err_from_is_err_and}
 use Rattle.undo.specs.Entering.{entered_of}
 use Rattle.undo.proofs.enter.Goals as goal
 
-pub returns-then-number-ne0 : goal.returns-then-number-ne0
+pub returns-in_err-asked : goal.returns-in_err-asked
 unfolding entered_of
-returns-then-number-ne0 c = rw (ne_eqb _ 0 (λ zero. c.if-number-ne0.true (c.number.ensures ∙ zero)))
+returns-in_err-asked c = let p = err_from_is_err_and c.from_residual.result c.from_residual.ensures.1 in
+    rw (p.1, p.2, c.in_err-asked.was)
 
 pub returns : goal.returns
 unfolding entered_of
-returns c = rw (
-  eq-eqb _ 0 (sym c.number.ensures ∙ c.if-number-ne0.false),
-  c.append.ensures,
-  c.payload.ensures,
-  c.closes.ensures,
-)
+returns c = rw c.in_ok-asked.was (c.append.ensures ∙ rw (c.from.ensures, c.closes.ensures))

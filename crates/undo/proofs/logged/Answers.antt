@@ -1,72 +1,60 @@
--- `undo::logged` meets its contract. The loop's invariant: the search among the entries that are left finds what the whole
--- search finds.
+-- `undo::logged` meets its contract, by its loop's invariant.
+use Rattle.std.specs.Prelude.{Some}
 use Prim.Native.Nat.{◌+◌, ◌-◌}
-use mathlib.Core.Path.{◌≡◌, sym, ◌∙◌, ap}
+use mathlib.Core.Path.{◌≡◌, sym, ap, ◌∙◌}
+use mathlib.Core.Logic.{⊎_elim}
 use native.Mathlib.Omega.{arith}
-use borrow.Author.Rules.{rules}
 use borrow.Author.Tests.{eq-eqb, ne_eqb}
 use lib.ListN.{get_or}
 use Rattle.ring.specs.Ring.{lsn}
-use Rattle.event.specs.Events.{event_of}
-use Rattle.undo.specs.Entering.{live_event}
 use Rattle.entry.specs.Words.{said_by, zeros}
-use Rattle.thread_log.specs.Entries.{live_count}
-use Rattle.undo.specs.Regions.{searched, logged_among, logged_of}
+use Rattle.event.specs.Events.{event_of}
 use Rattle.event.specs.declared.Event.{Event}
 use Rattle.event.specs.declared.Event.TheVariants.{Empty, Store, Acquire, Release}
-use Rattle.undo.specs.declared.Found.TheVariants.{At}
-use Rattle.undo.proofs.Walks.{seen, logged_seen, logged_turn}
+use Rattle.undo.specs.Entering.{live_event}
+use Rattle.undo.specs.Regions.{searched, logged_among, logged_of}
+use Rattle.undo.proofs.Walks.{logged_turn}
 use Rattle.undo.proofs.logged.Goals as goal
-use Rattle.undo.proofs.logged.Goals.{At-loop-left, After-event_of-event}
+use Rattle.undo.proofs.logged.Goals.{After-from}
 
--- the whole search is the one that the loop began with
-whole : (c : At-loop-left)
-    → logged_of c.args.log c.args.cell ≡ logged_among (seen c.args.log.cached c.args.log.head) c.args.cell c.live_count-left.result
-unfolding logged_of
-whole c =
-    logged_seen c.args.log c.args.cell (live_count c.args.log)
-    ∙ ap (logged_among (seen c.args.log.cached c.args.log.head) c.args.cell) (sym c.live_count-left.ensures)
-
-turn : (c : After-event_of-event) (event : Event) → c.event_of-event.result ≡ event
-    → logged_among (seen c.args.log.cached c.args.log.head) c.args.cell c.live_count-left.result ≡
-    searched event c.args.cell (At (lsn (c.args.log.head.0 + (c.loop-left.left - 1))))
-    (logged_among (seen c.args.log.cached c.args.log.head) c.args.cell (c.loop-left.left - 1))
+turn : (c : After-from) (event : Event) → c.from.result ≡ event
+    → (let log = c.args.log.now in
+    let left = c.loop-index.index - 1 in
+    logged_of log c.args.cell ≡ searched event c.args.cell (Some (lsn (log.head.0 + left))) (logged_among log c.args.cell left))
 turn c event says =
-    let log = seen c.args.log.cached c.args.log.head in
-    let live : live_event log (c.loop-left.left - 1) ≡ event =
-    ap (λ slot. event_of (said_by (get_or c.args.log.cached slot zeros))) (sym c.slot_after-slot.ensures) ∙
-    sym c.event_of-event.ensures ∙ says in
-    c.loop-left.invariant.1
-    ∙ logged_turn log c.args.cell c.loop-left.left (omega arith)
-    ∙ rw live
+    let log = c.args.log.now in
+    let live : live_event log (c.loop-index.index - 1) ≡ event =
+    ap (λ slot. event_of (said_by (get_or log.cached slot zeros))) (sym c.slot_after.ensures) ∙ sym c.from.ensures ∙ says in
+    c.loop-index.invariant ∙ logged_turn log c.args.cell c.loop-index.index (omega arith) ∙ rw live
+
+pub loop-index-init : goal.loop-index-init
+unfolding logged_of
+loop-index-init c = rw c.live_count-index.ensures
 
 pub returns-in-Empty : goal.returns-in-Empty
 returns-in-Empty c =
-    let at = goal.at.returns-in-Empty c in
-    sym (whole at.At-loop-left ∙ turn at.After-event_of-event Empty c.in-Empty.is)
+    let at = (goal.at.returns-in-Empty c).After-from in
+    ⊎_elim
+    (λ empty. sym (turn at Empty empty))
+    (λ more.
+    ⊎_elim
+    (λ acquire. sym (turn at (Acquire _ _) acquire.2))
+    (λ release. sym (turn at (Release _ _) release.2))
+    more)
+    c.in-Empty.is
 
 pub returns-then-logged-cell : goal.returns-then-logged-cell
 returns-then-logged-cell c =
-    let at = goal.at.returns-then-logged-cell c in
-    sym (whole at.At-loop-left ∙ turn at.After-event_of-event (Store _ _) c.in-Store.is ∙ rw (eq-eqb _ _ c.if-logged-cell.true))
+    let at = (goal.at.returns-then-logged-cell c).After-from in
+    sym (turn at (Store _ _) c.in-Store.is ∙ rw (eq-eqb _ _ c.if-logged-cell.true))
 
-pub loop-left-preserved : goal.loop-left-preserved
-loop-left-preserved c =
-    let at = goal.at.loop-left-preserved c in
-    (search rules, turn at.After-event_of-event (Store _ _) c.in-Store.is ∙ rw (ne_eqb _ _ c.if-logged-cell.false))
-
-pub returns-in-Acquire : goal.returns-in-Acquire
-returns-in-Acquire c =
-    let at = goal.at.returns-in-Acquire c in
-    sym (whole at.At-loop-left ∙ turn at.After-event_of-event (Acquire _ _) c.in-Acquire.is)
-
-pub returns-in-Release : goal.returns-in-Release
-returns-in-Release c =
-    let at = goal.at.returns-in-Release c in
-    sym (whole at.At-loop-left ∙ turn at.After-event_of-event (Release _ _) c.in-Release.is)
+pub loop-index-preserved : goal.loop-index-preserved
+loop-index-preserved c =
+    let at = (goal.at.loop-index-preserved c).After-from in
+    turn at (Store _ _) c.in-Store.is ∙ rw (ne_eqb _ _ c.if-logged-cell.false)
 
 pub returns : goal.returns
 unfolding logged_among
 returns c =
-    let none : c.loop-left.left ≡ 0 = omega arith in
-    sym (whole (goal.at.returns c).At-loop-left ∙ c.loop-left.invariant.1 ∙ rw none)
+    let none : c.loop-index.index ≡ 0 = omega arith in
+    sym (c.loop-index.invariant ∙ rw none)

@@ -1,13 +1,7 @@
--- `undo::logged` meets its contract. The loop's invariant: the search among the entries that are left finds what the whole
--- search finds.
-use Prim.Native.Nat.{◌-◌, ◌≤◌}
+-- The invariant of `undo::logged`'s loop: the search among the entries that are left finds what the whole search finds.
 use mathlib.Core.Path.{◌≡◌}
-use Rattle.undo.specs.Regions.{logged_among}
-use Rattle.undo.proofs.Walks.{seen}
+use Rattle.undo.specs.Regions.{logged_among, logged_of}
 use Rattle.undo.proofs.logged.Given as goal
 
-abbrev pub invariant-loop-left : goal.invariant-loop-left
-invariant-loop-left l = (l.left ≤ l.initial.left) × (logged_among (seen l.cached l.head) l.cell l.initial.left ≡ logged_among (seen l.cached l.head) l.cell l.left)
-
-abbrev pub decreases-loop-left : goal.decreases-loop-left
-decreases-loop-left l = l.left
+abbrev pub invariant-loop-index : goal.invariant-loop-index
+invariant-loop-index l = logged_of l.log l.cell ≡ logged_among l.log l.cell l.index

@@ -1,47 +1,31 @@
 -- `undo::store_answer` meets its contract.
-use mathlib.Core.Path.{◌≡◌, sym, ◌∙◌}
-use borrow.Author.Tests.{not-true, not-false}
+use mathlib.Core.Path.{sym, ◌∙◌}
+use borrow.Author.Tests.{lt-ltb, le-ltb}
 use Rattle.answer.specs.Refusals.{unless, first_refusal}
-use Rattle.undo.specs.Regions.{is_logged, is_undurable_found, logged_of}
-use Rattle.undo.proofs.logged.Reads as logged-reads
-use Rattle.tail.proofs.Tail.is_releasing.Reads as is-releasing-reads
-use Rattle.undo.proofs.is_found.Reads as is-found-reads
-use Rattle.undo.proofs.is_undurable.Reads as is-undurable-reads
 use Rattle.undo.proofs.store_answer.Goals as goal
-use Rattle.undo.proofs.store_answer.Goals.{After-is_found, After-is_undurable}
-
-founds : (c : After-is_found) →
-    (let a = c.args in is_logged a.log a.cell) ≡ c.is_found.result
-founds c = sym (c.is_found.ensures ∙ rw c.logged-found.ensures)
-
-undurable : (c : After-is_undurable) →
-    (let a = c.args in is_undurable_found a.log (logged_of a.log a.cell)) ≡
-    c.is_undurable.result
-undurable c = sym (c.is_undurable.ensures ∙ rw c.logged-found.ensures)
 
 pub returns-then-is_releasing : goal.returns-then-is_releasing
 unfolding first_refusal unless
 returns-then-is_releasing c = rw (sym c.is_releasing.ensures ∙ c.if-is_releasing.true)
 
-pub returns-then-not-is_found : goal.returns-then-not-is_found
+pub returns-in_default : goal.returns-in_default
 unfolding first_refusal unless
-returns-then-not-is_found c = rw (
-  sym c.is_releasing.ensures ∙ c.if-is_releasing.false,
-  founds (goal.at.returns-then-not-is_found c).After-is_found ∙ c.if-not-is_found.true,
-)
+returns-in_default c = rw (sym c.is_releasing.ensures ∙ c.if-is_releasing.false, sym c.logged.ensures ∙ c.in_default.is)
 
-pub returns-then-is_undurable : goal.returns-then-is_undurable
+pub returns-then-log-lsn : goal.returns-then-log-lsn
 unfolding first_refusal unless
-returns-then-is_undurable c = rw (
-  sym c.is_releasing.ensures ∙ c.if-is_releasing.false,
-  founds (goal.at.returns-then-is_undurable c).After-is_found ∙ c.if-not-is_found.false,
-  undurable (goal.at.returns-then-is_undurable c).After-is_undurable ∙ c.if-is_undurable.true,
-)
+returns-then-log-lsn c =
+    rw (
+      sym c.is_releasing.ensures ∙ c.if-is_releasing.false,
+      sym c.logged.ensures ∙ c.in-Some.is,
+      lt-ltb c.args.log.now.tail.durable.0 c.in-Some.lsn.0 c.if-log-lsn.true,
+    )
 
 pub returns : goal.returns
 unfolding first_refusal unless
-returns c = rw (
-  sym c.is_releasing.ensures ∙ c.if-is_releasing.false,
-  founds (goal.at.returns c).After-is_found ∙ c.if-not-is_found.false,
-  undurable (goal.at.returns c).After-is_undurable ∙ c.if-is_undurable.false,
-)
+returns c =
+    rw (
+      sym c.is_releasing.ensures ∙ c.if-is_releasing.false,
+      sym c.logged.ensures ∙ c.in-Some.is,
+      le-ltb c.args.log.now.tail.durable.0 c.in-Some.lsn.0 c.if-log-lsn.false,
+    )

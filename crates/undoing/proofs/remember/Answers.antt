@@ -1,26 +1,34 @@
--- `undoing::remember` meets its contract. The loop's invariant: what is remembered is that of the entries at the places before `place`.
+-- `undoing::remember` meets its contract.
+use mathlib.Core.Path.{◌≡◌}
 use native.Mathlib.Omega.{arith}
-use Rattle.undoing.proofs.Pass.{pass-starts, pass_on, pass-over, pass-ends}
+use Rattle.image.proofs.Tested.{is_readable}
+use Rattle.undoing.specs.Undo.{left_of}
+use Rattle.undoing.proofs.Pass.{left-few, pass-starts, pass-on, pass-thread, pass-ends}
 use Rattle.undoing.proofs.remember.Goals as goal
 
-pub loop-place-init : goal.loop-place-init
-loop-place-init c = (omega arith, pass-starts c.requires.0 c.requires.1)
+pub loop-thread-init : goal.loop-thread-init
+loop-thread-init c = let tested = c.args.tested in pass-starts (is_readable tested) tested.counted
 
--- an entry is remembered
-pub loop-place-preserved-then-index-left : goal.loop-place-preserved-then-index-left
-loop-place-preserved-then-index-left c = let p = c.requires in (
-  omega (arith, c.loop-place-test.true),
-  rw (c.with_count.ensures, c.later.ensures, c.count_of-count.ensures, c.lock_of-lock.ensures)
-      (pass_on p.0 p.1 c.loop-place.place c.loop-place-test.true c.if-index-left.true c.loop-place.invariant.1
-      c.entry_of-entry.result c.entry_of-entry.ensures),
-)
+pub bounds-earlier-thread : goal.bounds-earlier-thread
+bounds-earlier-thread c =
+    let tested = c.args.tested in
+    omega (arith, left-few (is_readable tested) tested.counted c.loop-thread.thread (omega arith))
 
--- where the thread has no more entries, its other places are passed
-pub loop-place-preserved : goal.loop-place-preserved
-loop-place-preserved c = let p = c.requires in (
-  omega (arith, c.loop-place-test.true),
-  pass-over p.0 p.1 c.loop-place.place c.loop-place-test.true c.if-index-left.false c.loop-place.invariant.1,
-)
+pub loop-index-preserved : goal.loop-index-preserved
+loop-index-preserved c =
+    let tested = c.args.tested in
+    rw (c.later.ensures, c.lock_of-lock.ensures)
+    (pass-on (is_readable tested) tested.counted c.loop-thread.thread c.loop-index.index (omega arith) (omega arith)
+    c.loop-index.invariant c.entry-entry.result c.entry-entry.ensures)
+
+pub loop-thread-preserved : goal.loop-thread-preserved
+loop-thread-preserved c =
+    let tested = c.args.tested in
+    let all : c.loop-index.index ≡ left_of tested.present c.loop-thread.thread = omega arith in
+    pass-thread (is_readable tested) tested.counted c.loop-thread.thread (rw all at c.loop-index.invariant)
 
 pub returns : goal.returns
-returns c = pass-ends c.requires.0 c.requires.1 c.loop-place-test.false c.loop-place.invariant.1
+returns c =
+    let tested = c.args.tested in
+    let all : c.loop-thread.thread ≡ 4 = omega arith in
+    pass-ends (is_readable tested) tested.counted (rw all at c.loop-thread.invariant)

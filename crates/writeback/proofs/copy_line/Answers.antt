@@ -1,29 +1,27 @@
--- `writeback::copy_line` meets its contract: below `cell` the list is the copied one, and from there on the old one.
-use Prim.Native.Nat.{◌-◌}
+-- `writeback::copy_line` meets its contract: the line's cells are the part that is written.
+use Prim.Native.Nat.{ℕ, ◌+◌, ◌*◌, ◌-◌}
 use native.Mathlib.Omega.{arith}
-use mathlib.Core.Path.{◌≡◌, ◌∙◌}
-use lib.ListN.{length}
-use Rattle.cache.proofs.Lines.{copied-starts, copied-turn, copied-done}
+use mathlib.Core.Path.{◌≡◌, sym, ap, ◌∙◌}
+use mathlib.Core.List.{List}
+use lib.ListN.{length, get_or, take, drop, length-take, length-drop}
+use borrow.Author.Rules.{rules}
+use Rattle.std.proofs.lemmas.List.{get_or-drop, get_or-take}
+use Rattle.cache.proofs.Lines.{copied, copied-long, copied-inside, copied-outside}
+use Rattle.writeback.proofs.Parts.{written}
 use Rattle.writeback.proofs.copy_line.Goals as goal
-use Rattle.writeback.proofs.copy_line.Goals.{Start}
-
--- the two lists are as long
-long : (c : Start) → length c.args.from.now ≡ length c.args.to.now
-long c = omega arith
-
-pub loop-cell-init : goal.loop-cell-init
-loop-cell-init c = let a = c.args in
-    (omega arith, omega arith, copied-starts a.line a.from.now a.to.now (long (goal.at.loop-cell-init c).Start))
-
-pub loop-cell-preserved : goal.loop-cell-preserved
-loop-cell-preserved c = let a = c.args in
-    let l = c.loop-cell in (
-      omega arith,
-      omega arith,
-      rw l.invariant.2 (copied-turn a.line a.from.now a.to.now (long (goal.at.loop-cell-preserved c).Start) l.cell (omega arith) (omega arith) (omega arith)),
-    )
 
 pub returns : goal.returns
 returns c = let a = c.args in
-    let l = c.loop-cell in
-    l.invariant.2 ∙ copied-done a.line a.from.now a.to.now (long (goal.at.returns c).Start) l.cell (omega arith)
+    let from = a.from.now in
+    let to = a.to.now in
+    let long : length from ≡ length to = omega arith in
+    let first = a.line * 8 in
+    let count = first + 8 - first in
+    let part : c.copy_from_slice.new.self ≡ take count (drop first from) = search rules in
+    written (copied a.line from to) to c.copy_from_slice.new.self 0 first count (copied-long a.line from to long) (omega arith)
+    (ap length part ∙ simp (length-take, length-drop) (omega arith))
+    (λ cell less. copied-outside a.line from to long cell (omega arith))
+    (λ index less.
+    ap (λ (words : List ℕ). get_or words index 0) part ∙ get_or-take count (drop first from) index 0 less ∙
+    get_or-drop first from index 0 ∙ sym (copied-inside a.line from to long (first + index) (omega arith)))
+    (λ cell past. copied-outside a.line from to long cell (omega arith))

@@ -11,7 +11,7 @@ use Rattle.writer.proofs.write_log.Goals as goal
 pub returns : goal.returns
 unfolding log_into
 returns c = let a = c.args in
-    let image = set a.image.now (heads_at + a.thread) a.log.head.0 in
+    let image = set a.image.now (heads_at + a.thread) a.log.now.head.0 in
     let at = stretch_at a.thread in
     part_back image c.write_stretch.new.part at ∙
-    ap (λ (part : List ℕ). take at image ++ part) (c.write_stretch.ensures ∙ ap (written_of a.log) (part_lent image at))
+    ap (λ (part : List ℕ). take at image ++ part) (c.write_stretch.ensures ∙ ap (written_of a.log.now) (part_lent image at))

@@ -1,16 +1,15 @@
--- `writer::write_stretch` meets its contract. The loop's invariant: the words before `i` are those of the persisted slots, and the others
--- are as they were.
-use mathlib.Core.Path.{◌≡◌, sym, ap, ◌∙◌}
-use mathlib.Core.List.{List, map}
-use Prim.Native.Nat.{ℕ, ◌+◌, ◌-◌, ◌*◌, ◌/◌, ◌%◌}
+-- `writer::write_stretch` meets its contract, by its loop's invariant.
+use mathlib.Core.Path.{◌≡◌, refl, sym, ap, ◌∙◌}
+use mathlib.Core.List.{List, map, append-nil}
+use Prim.Native.Nat.{ℕ, ◌+◌, ◌*◌, ◌/◌, ◌%◌}
 use native.Mathlib.Omega.{arith}
 use borrow.Author.Rules.{rules}
 use borrow.Author.Tests.{lt-ltb, le-ltb}
-use lib.ListN.{length, get_or, length-set, length-map}
-use lib.Seq.{take_all}
+use lib.ListN.{length, get_or, take, length-map, drop_of_length-le}
+use lib.Seq.{take_all, length-take-le}
 use Rattle.entry.specs.Words.{words_of}
-use Rattle.writer.specs.Written.{written_of}
 use Rattle.entry.specs.declared.Entry.{Entry}
+use Rattle.writer.specs.Written.{written_of}
 use Rattle.writer.proofs.Copied.{copied_more}
 use Rattle.thread_log.proofs.SlotLaws.{length_words, slot-word}
 use Rattle.writer.proofs.write_stretch.Goals as goal
@@ -27,25 +26,45 @@ pub returns-then-part-lt-STRETCH_WORDS : goal.returns-then-part-lt-STRETCH_WORDS
 unfolding written_of
 returns-then-part-lt-STRETCH_WORDS c = rw (lt-ltb (length c.args.part.now) 256 c.if-part-lt-STRETCH_WORDS.true)
 
-pub loop-i-preserved : goal.loop-i-preserved
-loop-i-preserved c = let a = c.args in
-    let l = c.loop-i in
-    let words = all_words a.log.persisted (search (rules, length-mapped)) in
-    let here : l.i / 4 * 4 + l.i % 4 ≡ l.i = omega arith in
-    let word : c.word.result ≡ get_or (words_of a.log.persisted) l.i 0 =
+pub bounds-log-index : goal.bounds-log-index
+bounds-log-index c = let stretch = length-take-le 256 c.args.part.now c.if-part-lt-STRETCH_WORDS.false in omega arith
+
+pub offset_bounds-log-index : goal.offset_bounds-log-index
+offset_bounds-log-index c = let stretch = length-take-le 256 c.args.part.now c.if-part-lt-STRETCH_WORDS.false in omega arith
+
+pub loop-index-init : goal.loop-index-init
+loop-index-init c = (refl, λ some. absurd (omega arith))
+
+pub loop-index-preserved : goal.loop-index-preserved
+loop-index-preserved c =
+    let slots = c.args.log.now.persisted in
+    let part = c.args.part.now in
+    let i = c.loop-index.index in
+    let sized : length slots ≡ 64 = search (rules, length-mapped) in
+    let words = all_words slots sized in
+    let stretch = length-take-le 256 part c.if-part-lt-STRETCH_WORDS.false in
+    let here : i / 4 * 4 + i % 4 ≡ i = omega arith in
+    let word : c.word.result ≡ get_or (words_of slots) i 0 =
     c.word.ensures
-    ∙ sym (slot-word a.log.persisted (l.i / 4) (l.i % 4) (omega arith))
-    ∙ ap (λ place. get_or (words_of a.log.persisted) place 0) here in (
-      search rules,
-      search rules,
-      simp length-set l.invariant.2,
-      rw (l.invariant.3, word) (copied_more a.part.now (words_of a.log.persisted) l.i (omega arith) (omega arith)),
+    ∙ sym (slot-word slots (i / 4) (i % 4) (omega arith))
+    ∙ ap (λ place. get_or (words_of slots) place 0) here in (
+      rw (c.loop-index.invariant.0, word) (copied_more (take 256 part) (words_of slots) i (omega arith) (omega arith)),
+      λ some. sized,
     )
 
 pub returns : goal.returns
 unfolding written_of
-returns c = let a = c.args in
-    let l = c.loop-i in
-    let words = all_words a.log.persisted (search (rules, length-mapped)) in
-    let all : l.i ≡ 256 = omega arith in
-    rw (le-ltb (length a.part.now) 256 l.invariant.1) (l.invariant.3 ∙ rw (all, take_all 256 (words_of a.log.persisted) (omega arith)))
+returns c =
+    let slots = c.args.log.now.persisted in
+    let part = c.args.part.now in
+    let stretch = length-take-le 256 part c.if-part-lt-STRETCH_WORDS.false in
+    let all : c.loop-index.index ≡ 256 = omega arith in
+    let words = all_words slots (c.loop-index.invariant.1 (omega arith)) in
+    rw (
+      le-ltb (length part) 256 c.if-part-lt-STRETCH_WORDS.false,
+      c.loop-index.invariant.0,
+      all,
+      take_all 256 (words_of slots) (omega arith),
+      drop_of_length-le (take 256 part) {i = 256} (omega arith),
+      append-nil,
+    )

@@ -1,14 +1,8 @@
--- `cache::Cache::pending_count` meets its contract. The loop's invariant: `count` is the number of lines below `line` with a flush pending.
-use Prim.Native.Nat.{◌-◌, ◌≤◌}
+-- `cache::Cache::pending_count` meets its contract. The loop's invariant: `count` lines before this one have a flush pending.
 use mathlib.Core.Path.{◌≡◌}
-use mathlib.Core.Bool.{false}
-use lib.ListN.{get_or}
 use Rattle.answer.specs.Lists.{count_below}
-use Rattle.cache.specs.Cache.{line_count, pending_place}
+use Rattle.cache.specs.Cache.{is_pending}
 use Rattle.cache.proofs.Cache.pending_count.Given as goal
 
-abbrev pub invariant-loop-line : goal.invariant-loop-line
-invariant-loop-line l = (l.line ≤ line_count) × (l.count ≤ l.line) × (l.count ≡ count_below l.line (λ below. get_or l.pending (pending_place l.thread below) false))
-
-abbrev pub decreases-loop-line : goal.decreases-loop-line
-decreases-loop-line l = line_count - l.line
+abbrev pub invariant-loop-is_pending : goal.invariant-loop-is_pending
+invariant-loop-is_pending l = l.count ≡ count_below l.is_pending-index (λ line. is_pending l.fn.self l.fn.thread line)

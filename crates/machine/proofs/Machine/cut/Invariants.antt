@@ -1,11 +1,6 @@
--- `machine::Machine::cut` meets its contract.
-use Prim.Native.Nat.{◌-◌}
-use Rattle.sizes.specs.Sizes.{thread_count}
+-- `machine::Machine::cut` meets its contract: the cells, and the heads and stretches of the threads below this one, are written.
 use Rattle.machine.proofs.ImageWritten.{WrittenTo}
 use Rattle.machine.proofs.Machine.cut.Given as goal
 
 abbrev pub invariant-loop-thread : goal.invariant-loop-thread
-invariant-loop-thread l = WrittenTo l.self l.image l.thread
-
-abbrev pub decreases-loop-thread : goal.decreases-loop-thread
-decreases-loop-thread l = thread_count - l.thread
+invariant-loop-thread l = WrittenTo l.fn.self l.image l.thread

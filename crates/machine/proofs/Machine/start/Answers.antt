@@ -5,8 +5,8 @@ use Rattle.machine.proofs.Machine.start.Goals as goal
 
 pub returns-then-words-ne-CELLS : goal.returns-then-words-ne-CELLS
 unfolding start_of
-returns-then-words-ne-CELLS c = rw (ne_eqb _ 128 c.if-words-ne-CELLS.true, c.fresh-machine.ensures)
+returns-then-words-ne-CELLS c = rw (ne_eqb _ 128 c.if-words-ne-CELLS.true, c.fresh.ensures)
 
 pub returns : goal.returns
 unfolding start_of
-returns c = rw (eq-eqb _ 128 c.if-words-ne-CELLS.false, c.fresh-machine-2.ensures, c.start_cells-cells.ensures)
+returns c = rw (eq-eqb _ 128 c.if-words-ne-CELLS.false, c.fresh-2.ensures, c.copy_from_slice.ensures.after)

@@ -3,18 +3,20 @@ use native.Mathlib.Omega.{arith}
 use borrow.Author.Tests.{le-leb, lt-leb}
 use Rattle.thread_log.specs.Entries.{drop_to_of}
 use Rattle.thread_log.proofs.Log.drop_to.Goals as goal
+use Rattle.thread_log.proofs.Log.drop_to.Goals.{else-self-head-via-then-self-head+else-head-self, else-self-head-via-else-self-head}
 
-pub returns-then-head-first : goal.returns-then-head-first
+pub returns-then-head-self : goal.returns-then-head-self
 unfolding drop_to_of
-returns-then-head-first c = let a = c.args in
-    simp (lt-leb a.self.head.0 a.head.0 (omega arith))
+returns-then-head-self c = let log = c.args.self.now in
+    let head = c.args.head.0 in
+    rw (le-leb log.head.0 head (omega arith), le-leb head log.tail.next.0 (omega arith))
 
-pub returns-then-next-head : goal.returns-then-next-head
+pub returns-else-self-head : goal.returns-else-self-head
 unfolding drop_to_of
-returns-then-next-head c = let a = c.args in
-    simp (le-leb a.self.head.0 a.head.0 (omega arith), lt-leb a.head.0 a.self.tail.next.0 (omega arith))
-
-pub returns : goal.returns
-unfolding drop_to_of
-returns c = let a = c.args in
-    simp (le-leb a.self.head.0 a.head.0 (omega arith), le-leb a.head.0 a.self.tail.next.0 (omega arith))
+returns-else-self-head c = let log = c.args.self.now in
+    let head = c.args.head.0 in
+    elim c.else-self-head.branch [
+      | else-self-head-via-then-self-head+else-head-self w ↦
+          rw (le-leb log.head.0 head (omega arith), lt-leb head log.tail.next.0 (omega arith))
+      | else-self-head-via-else-self-head w ↦ rw (lt-leb log.head.0 head (omega arith))
+    ]

@@ -1,0 +1,23 @@
+-- `machine::Machine::take_log_release` meets its contract.
+use mathlib.Core.Path.{refl, sym, ap, ◌∙◌}
+use Rattle.kinds.specs.Kinds.{kind_of}
+use Rattle.kinds.specs.declared.Kind.TheVariants.{LogRel as LOGREL}
+use Rattle.machine.specs.View.{machine_of}
+use Rattle.machine.proofs.Inputs.{input-exit}
+use Rattle.machine.proofs.PartSteps.{put_changed, log-release-step}
+use Rattle.machine.proofs.Reaching.{step-closes}
+use Rattle.machine.proofs.Machine.take_log_release.Goals as goal
+
+pub returns-in_err-input_answer : goal.returns-in_err-input_answer
+unfolding kind_of
+returns-in_err-input_answer c = let a = c.args in
+    input-exit a.self.now a.thread a.lock 0 5 LOGREL refl c.in_err-input_answer.ensures.refusal c.from_residual.result
+    c.from_residual.ensures.1
+
+pub returns : goal.returns
+returns c = let a = c.args in let old = machine_of c.self.inside in
+    rw (← c.self.view_is) (ap (put_changed old a.thread a.lock) c.log_release.ensures ∙ log-release-step old a.thread a.lock (sym c.in_ok-input_answer.ensures.refusal))
+
+pub invariant_of-self : goal.invariant_of-self
+invariant_of-self c = let a = c.args in let old = machine_of c.self.inside in
+    step-closes 5 a.thread a.lock 0 c.self.invariant (ap (put_changed old a.thread a.lock) c.log_release.ensures ∙ log-release-step old a.thread a.lock (sym c.in_ok-input_answer.ensures.refusal))
