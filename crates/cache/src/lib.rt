@@ -48,8 +48,8 @@ impl Cache {
     }
 
     // Whether a cell is durable; past the last cell none is.
-    pub fn is_durable(self, cell: usize) -> bool
-        ensures { result ≡ is_durable self cell }
+    pub fn is_durable(&self, cell: usize) -> bool
+        ensures { result ≡ is_durable self.now cell }
     {
         cell < CELLS && self.durable[cell]
     }

@@ -6,10 +6,10 @@ use native.Mathlib.Omega.{arith}
 use mathlib.Core.Path.{◌≡◌, refl, sym, ap, ◌∙◌}
 use mathlib.Core.List.{List, []}
 use lib.Seq.{set-get_or}
-use Rattle.answer.specs.Answer.{Answer}
+use Rattle.answer.specs.Answer.{Answer, number_of}
 use Rattle.answer.specs.Refusals.{unless, first_refusal}
 use Rattle.answer.specs.declared.Refusal.{Refusal}
-use Rattle.answer.proofs.RefusalLaws.{AllFail, unless-both}
+use Rattle.answer.proofs.RefusalLaws.{AllFail, not-zero, unless-both}
 use Rattle.cache.specs.Cache.{cached_at}
 use Rattle.sizes.specs.Sizes.{entry_words}
 use Rattle.ring.specs.declared.Lsn.{Lsn}
@@ -49,6 +49,10 @@ use Rattle.machine.proofs.Inputs.{input-accepted}
 abbrev pub Accepts : Kind → ℕ → ℕ → ℕ → ℕ → Type 0
 Accepts kind thread place value given = first_refusal (input_tests kind thread place value) ≡ Ok given
 
+-- a part function's answer tells the step: where it is acceptance the parts are put in their places, and where not nothing is
+abbrev pub Tells : Machine → Stepped → Answer → Stepped → Type 0
+Tells machine step answer put = (number_of answer ≡ 0 → put ≡ step) × ((number_of answer ≡ 0 → ⊥) → refused machine answer ≡ step)
+
 module _ (machine : Machine) (thread place value number : ℕ) (kind : Kind) (is_kind : kind_of number ≡ Some kind) {given : ℕ}
     (is_accepted : Accepts kind thread place value given) where
   abbrev step : Stepped
@@ -75,6 +79,28 @@ module _ (machine : Machine) (thread place value number : ℕ) (kind : Kind) (is
       kept
       puts
       ∙ sym (input-accepted machine thread place value number kind is_kind is_accepted)
+
+  -- the same where only an accepted part is put into the machine
+  by_answer : {B : Type 0} (report : Answer → B) (done : B) (answer_of : B → Answer) (put : B → Stepped)
+      → ((answer : Answer) → answer_of (report answer) ≡ answer) → number_of (answer_of done) ≡ 0
+      → (AllFail (state_tests machine kind thread place) → put done ≡ effect machine kind thread place value)
+      → let result = unless report (state_tests machine kind thread place) done in Tells machine step (answer_of result) (put result)
+  by_answer report done answer_of put reports accepts puts =
+      let is_step = input-accepted machine thread place value number kind is_kind is_accepted in
+      let both =
+      unless-both
+      (λ stepped part. Tells machine stepped (answer_of part) (put part))
+      (refused machine)
+      report
+      (state_tests machine kind thread place)
+      (effect machine kind thread place value)
+      done
+      (λ refusal. (
+        (λ zero. absurd (not-zero refusal (ap number_of (sym (reports (Err refusal))) ∙ zero))),
+        (λ is_refused. ap (refused machine) (reports (Err refusal))),
+      ))
+      (λ fails. ((λ zero. puts fails), (λ is_refused. absurd (is_refused accepts)))) in
+      ((λ zero. both.0 zero ∙ sym is_step), (λ is_refused. both.1 is_refused ∙ sym is_step))
 
 -- a machine's own parts put in their places change nothing
 module _ (machine : Machine) (thread : ℕ) where

@@ -1,5 +1,6 @@
 -- Two texts are the same just where `==` says so, and then they are equal.
 use Prim.Native.Nat.{ℕ}
+use borrow.Author.Tests.{eq-eqb}
 use mathlib.Core.Path.{◌≡◌, refl, ap, ◌∙◌}
 use mathlib.Core.Bool.{Bool, true, ◌&&◌}
 use mathlib.Core.List.{List, [], ◌∷◌}
@@ -19,3 +20,9 @@ same_is (byte ∷ one) (byte' ∷ other) = ap (λ (rest : Bool). eqb byte byte' 
 -- texts that are the same are equal
 pub same_eq : (one other : List ℕ) → same_text one other ≡ true → one ≡ other
 same_eq one other same = (bytes_eq-Decides one other).0 (same_is one other ∙ same)
+
+-- a text is the same as itself
+pub same_refl : (text : List ℕ) → same_text text text ≡ true
+unfolding same_text
+same_refl [] = refl
+same_refl (byte ∷ text) = rw (eq-eqb byte byte refl) (same_refl text)

@@ -51,11 +51,17 @@ fn logs_undurable(cache: &Cache, event: Event) -> bool
     }
 }
 
-// One of the first so many live entries logs a cell that is not durable.
+// One of the first so many live entries logs a cell that is not durable: asked from the newest one back, since the cells that were logged
+// last are the last to be flushed.
 fn has_undurable(log: &Log, cache: &Cache, count: usize) -> bool
     ensures { result ≡ some_below count (λ index. logs_undurable cache.now (live_event log.now index)) }
 {
-    (0..count).any(|index| logs_undurable(cache, live_event(log, index)))
+    for index in (0..count).rev() {
+        if logs_undurable(cache, live_event(log, index)) {
+            return true;
+        }
+    }
+    false
 }
 
 // The LSN after the first so many live entries.

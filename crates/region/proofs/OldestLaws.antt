@@ -1,5 +1,5 @@
 -- The oldest region of a log: a walk over the live entries finds its size, which stays within these.
-use Prim.Native.Nat.{ℕ, suc, ◌+◌, ◌-◌, ◌<◌, ◌≤◌}
+use Prim.Native.Nat.{ℕ, zero, suc, ◌+◌, ◌-◌, ◌<◌, ◌≤◌}
 use mathlib.Core.Bool.{Bool, true, false, false≢true}
 use mathlib.Core.Logic.{by_cases}
 use mathlib.Core.Path.{◌≡◌, refl}
@@ -12,6 +12,13 @@ use Rattle.thread_log.specs.declared.Log.{Log}
 use Rattle.undo.specs.Entering.{live_event}
 use Rattle.undo.specs.Regions.{is_acquire, is_release, goes_on, oldest_region, is_finished}
 use Rattle.undo.proofs.RegionLaws.{goes-most}
+use Rattle.undo.proofs.Walks.{seen}
+
+-- a walk looks at the cached entries and the head alone
+goes_on-seen : (log : Log) (index count : ℕ) → goes_on log index count ≡ goes_on (seen log.cached log.head) index count
+unfolding goes_on
+goes_on-seen log index zero = refl
+goes_on-seen log index (suc count) = rw (goes_on-seen log (suc index) count)
 
 module _ (log : Log) (index n : ℕ) (more : index < n) where
   one_more : n - index ≡ suc (n - (index + 1))

@@ -15,12 +15,12 @@ use Rattle.answer.proofs.ListLaws.{tab-last}
 use Rattle.answer.proofs.RefusalLaws.{AllFail, unless-both, none-holds}
 use Rattle.cache.specs.Cache.{line_count}
 use Rattle.machine.specs.Effects.{accepted}
-use Rattle.machine.specs.Runs.{Step, after, evict_steps}
+use Rattle.machine.specs.Runs.{Step, after, evict_steps, Reached}
 use Rattle.machine.specs.Steps.{refused, step_of}
 use Rattle.machine.specs.State.{Machine}
 use Rattle.machine.specs.declared.Stepped.{Stepped}
 use Rattle.machine.proofs.Evictions.{evict-cell-taken}
-use Rattle.machine.proofs.Reaching.{after_then}
+use Rattle.machine.proofs.Reaching.{after_then, after-reached}
 use Rattle.script.specs.Script.{retired_kind, retired_tests, script_of, read_as, reading_of, taken_of, all_taken, TakesScript}
 use Rattle.script.specs.declared.Reading.{Reading}
 
@@ -100,6 +100,10 @@ module _ (machine : Machine) (reading : Reading) (value : ℕ) where
       (taken-after count) ∙
       sym (ap (after machine) (tab-last count step_at) ∙ after_then machine (tab count step_at) (step_at count))
 
+  -- each of the steps is of a machine that steps lead to
+  pub taken-reached : (count : ℕ) → Reached machine → Reached (taken_of machine reading value count).machine
+  taken-reached count reached = rw (taken-after count) (after-reached machine (tab count step_at) reached)
+
   -- one turn of a loop over the steps: a step from where the steps so far lead
   pub taken_more : (count : ℕ) {before : Machine} {stepped : Stepped} → before ≡ (taken_of machine reading value count).machine →
       stepped ≡ step_of before reading.kind reading.thread (reading.first + count) value →
@@ -147,6 +151,16 @@ takes_script machine kind thread place value = by_kind (eqb kind retired_kind)
         next-taken machine (one_step kind thread place) value 0 ∙
         rw (none-taken machine (one_step kind thread place) value)
         (ap (λ (at : ℕ). step_of machine kind thread at value) (omega arith))
+
+-- what a line does leads to a machine that steps lead to
+pub script_reached : (machine : Machine) (kind thread place value : ℕ) → Reached machine →
+    Reached (script_of machine kind thread place value).machine
+script_reached machine kind thread place value reached =
+    rw (sym (takes_script machine kind thread place value)) (by_reading (reading_of kind thread place value))
+  where
+    by_reading : (read : Result Reading Refusal) → Reached (all_taken machine read value).machine
+    by_reading (Ok reading) = taken-reached machine reading value reading.count reached
+    by_reading (Err refusal) = reached
 
 -- what code that takes a reading's steps leaves
 pub took : (machine : Machine) (kind thread place value : ℕ) {read : Result Reading Refusal} → read ≡ reading_of kind thread place value →

@@ -1,4 +1,6 @@
 // Cells and locks: what each holds after a history.
+ghost use Rattle.std.specs.Prelude.{◌≤◌};
+
 use crate::model::Run;
 use crate::model::history::{Kind, Step, at, before, is_after, last_at, last_of, unless_ended};
 
@@ -30,7 +32,9 @@ fn is_marked(past: &[Step], thread: u64, line: u64) -> bool {
 }
 
 // How many of the 16 lines have the thread's mark.
-pub(crate) fn marked_lines(past: &[Step], thread: u64) -> usize {
+pub(crate) fn marked_lines(past: &[Step], thread: u64) -> usize
+    ensures { result ≤ 16 }
+{
     (0..16)
         .filter(|line| is_marked(past, thread, *line))
         .count()
